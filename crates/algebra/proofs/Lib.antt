@@ -1,0 +1,5 @@
+pub mod Bytes
+pub mod Computed
+pub mod Guarded
+pub mod Laws
+pub mod Residues

@@ -1,0 +1,4 @@
+pub mod Arithmetics
+pub mod BitPolynomials
+pub mod Field
+pub mod Polynomial
