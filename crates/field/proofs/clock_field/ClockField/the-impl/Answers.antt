@@ -2,7 +2,7 @@
 use mathlib.Core.Path.{refl}
 use native.Mathlib.Omega.{arith}
 use Rattle.algebra.specs.Arithmetics.{reciprocal, such-that}
-use Rattle.algebra.proofs.Residues.{residues}
+use Rattle.algebra.proofs.Modular.{residues}
 use Rattle.field.proofs.clock_field.ClockField.the-impl.Needs as need
 
 pub lawful-law : need.lawful-law
