@@ -98,17 +98,8 @@ module _ (f : Arithmetic) (L : FieldLaws f) where
   Is = IsPolynomial f
 
   -- What is a polynomial.
-  pub list-polynomial : (codes : List ℕ) → ((i : ℕ) → i < length codes → coefficients codes i < f .order) → Is (coefficients codes)
-  list-polynomial codes h =
-      record {
-        codes =
-            λ i. elim (decLt i (length codes)) [
-              | yes l ↦ h i l
-              | no l ↦ rw (coefficients-below codes i (omega arith)) (zero-below f L)
-            ];
-        bound = length codes;
-        ends = coefficients-below codes;
-      }
+  pub list-polynomial : (codes : List ℕ) → ((i : ℕ) → coefficients codes i < f .order) → Is (coefficients codes)
+  list-polynomial codes h = record { codes = h; bound = length codes; ends = coefficients-below codes }
 
   pub nought-polynomial : Is nought
   nought-polynomial = record { codes = λ i. omega (arith, L .order-least); bound = 0; ends = nought-below 0 }

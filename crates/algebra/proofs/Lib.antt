@@ -1,4 +1,5 @@
 pub mod Bytes
+pub mod Charges
 pub mod Codes
 pub mod Coefficients
 pub mod Computed
@@ -10,9 +11,11 @@ pub mod Laws
 pub mod Main
 pub mod Modular
 pub mod Modulo
+pub mod Negatives
 pub mod Polynomials
 pub mod Reading
 pub mod Reconstruction
+pub mod Remainders
 pub mod Residues
 pub mod Rings
 pub mod Selections

@@ -65,6 +65,10 @@ module _ {R : Type 0} (𝓡 : Ring R) where
   pub negative-zero : negative 𝟎 ≡ 𝟎
   negative-zero = cc (𝓡 .sum-negative 𝟎, zero-plus (negative 𝟎))
 
+  pub times-negative : (a b : R) → a · negative b ≡ negative (a · b)
+  times-negative a b =
+      cancel (a · b) (a · negative b) (negative (a · b)) (cc (times-plus a b (negative b), 𝓡 .sum-negative b, times-zero a, 𝓡 .sum-negative (a · b)))
+
   -- The difference a - b: what gives a when b is added. Identities with differences are proved by naming the
   -- difference, `difference-plus`, and `simp ring` for the rest.
   abbrev pub difference : R → R → R

@@ -1,6 +1,8 @@
 // A tour of the library: each layer does one real task and says what it did.
 ghost use mathlib.Core.Path.{_≡_};
 ghost use Prim.Native.Nat.{_<_};
+use fault::Fault;
+use fault::GroundDisplay;
 use field::Bits;
 use field::BitsField;
 use field::Bytes;
@@ -8,6 +10,9 @@ use field::BytesField;
 use field::Clock;
 use field::ClockField;
 use field::Field;
+use plan::EncodeFaultGround;
+use plan::Plan;
+use plan::PlanFaultGround;
 use std::error::AnyError;
 
 /// Solves gain · x + offset = level, where the gain is a code other than 0 and the others are codes.
@@ -42,6 +47,122 @@ fn show_field<F: Field, R: Print>(
     Ok(())
 }
 
+// Over bits: z, z + 1, z^2 + z + 1 and z^3 + z + 1, nine codes each, lowest power first.
+const MODULI: [u16; 36] = [
+    0,
+    1,
+    0,
+    0,
+    0,
+    0,
+    0,
+    0,
+    0,
+    1,
+    1,
+    0,
+    0,
+    0,
+    0,
+    0,
+    0,
+    0,
+    1,
+    1,
+    1,
+    0,
+    0,
+    0,
+    0,
+    0,
+    0,
+    1,
+    1,
+    0,
+    1,
+    0,
+    0,
+    0,
+    0,
+    0,
+];
+
+/// Whether a position other than the first starts at this code of a word.
+fn begins_position<F: Field>(plan: &Plan<F>, place: usize) -> bool {
+    for i in 1..plan.positions() {
+        if plan.start(i) == place {
+            return true;
+        }
+    }
+    false
+}
+
+/// Prints a word, a bar between positions.
+fn show_word<F: Field, R: Print>(rt: &R, plan: &Plan<F>, word: &[u16]) -> Result<(), AnyError> {
+    for (place, code) in word.iter().enumerate() {
+        if begins_position(plan, place) {
+            print!(rt, "|")?;
+        } else if place > 0 {
+            print!(rt, " ")?;
+        }
+        print!(rt, "{code}")?;
+    }
+    println!(rt, "")?;
+    Ok(())
+}
+
+/// Makes a plan and encodes a message under it.
+fn show_plan<R: Print>(rt: &R) -> Result<(), AnyError> {
+    println!(
+        rt,
+        "Plans: a message is carried as its remainders by moduli that share no factor."
+    )?;
+    let plan = match Plan::<Bits>::new(2, &MODULI) {
+        Ok(plan) => plan,
+        Err(fault) => {
+            println!(rt, "{}", fault.ground())?;
+            return Ok(());
+        }
+    };
+    let positions = plan.positions();
+    let carriers = plan.carriers();
+    println!(
+        rt,
+        "  Over bits, {positions} moduli, of which the first {carriers} carry the message and the others guard it:"
+    )?;
+    let message_length = plan.message_length();
+    let word_length = plan.word_length();
+    println!(
+        rt,
+        "  a message has {message_length} codes and its word {word_length}."
+    )?;
+    let mut word = [0; 7];
+    match plan.encode(&[1, 1], &mut word) {
+        Ok(()) => {
+            print!(rt, "  The message 1 1, the polynomial 1 + z, has the word ")?;
+            show_word(rt, &plan, &word)
+        }
+        Err(fault) => {
+            println!(rt, "{}", fault.ground())?;
+            Ok(())
+        }
+    }
+}
+
+/// Two moduli that share a factor make no plan.
+fn show_refusal<R: Print>(rt: &R) -> Result<(), AnyError> {
+    let moduli = [1, 1, 0, 0, 0, 0, 0, 0, 0, 1, 0, 1, 0, 0, 0, 0, 0, 0];
+    match Plan::<Bits>::new(1, &moduli) {
+        Ok(_) => println!(rt, "  z + 1 and z^2 + 1 make a plan over bits.")?,
+        Err(fault) => println!(
+            rt,
+            "  z + 1 and z^2 + 1 = (z + 1)(z + 1) make no plan over bits: {}",
+            fault.ground()
+        )?,
+    }
+    Ok(())
+}
+
 fn tour<R: Print>(rt: &R) -> Result<(), AnyError> {
     println!(
         rt,
@@ -49,7 +170,9 @@ fn tour<R: Print>(rt: &R) -> Result<(), AnyError> {
     )?;
     show_field::<Bits, R>(rt, "bits", 1, 1, 1)?;
     show_field::<Bytes, R>(rt, "bytes", 128, 2, 7)?;
-    show_field::<Clock, R>(rt, "clock", 129, 2, 250)
+    show_field::<Clock, R>(rt, "clock", 129, 2, 250)?;
+    show_plan(rt)?;
+    show_refusal(rt)
 }
 
 fn main(rt: LibcRuntime) -> Result<(), AnyError> {

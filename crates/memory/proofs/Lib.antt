@@ -1,0 +1,4 @@
+pub mod Facts
+pub mod Held
+pub mod Packing
+pub mod Rows

@@ -1,0 +1,12 @@
+pub mod Handed
+pub mod Held
+pub mod Made
+pub mod Moduli
+pub mod Numbers
+pub mod Records
+pub mod Signs
+pub mod Sizes
+pub mod Tallies
+pub mod Trimmed
+pub mod Uniqueness
+pub mod Words

@@ -1,0 +1,28 @@
+// Plans: a field, k and pairwise coprime moduli; and the encoding of a message as its remainder word.
+mod encoding;
+mod faults;
+mod figures;
+mod limits;
+mod making;
+mod record;
+mod tests_of_codes;
+mod theorems;
+
+pub use faults::EncodeFault;
+pub use faults::EncodeFaultGround;
+pub use faults::PlanFault;
+pub use faults::PlanFaultGround;
+pub use limits::MODULUS_CODES;
+pub use limits::MOST_POSITIONS;
+pub use limits::MOST_TOTAL;
+pub use record::Record;
+use std::marker::PhantomData;
+pub use theorems::margins_apart;
+pub use theorems::one_message_within;
+
+/// An accepted choice of field, k and moduli. It never changes.
+#[derive_where(Clone, Copy)]
+pub struct Plan<F: field::Field> {
+    field: PhantomData<F>,
+    record: Record,
+}
