@@ -3,6 +3,7 @@ pub mod Held
 pub mod Made
 pub mod Moduli
 pub mod Numbers
+pub mod OwnWord
 pub mod Records
 pub mod Signs
 pub mod Sizes

@@ -56,6 +56,11 @@ module _ (s : Scheme) where
     pub is-message : IsMessage s message
     pub margin-enough : pos 0 ≤ℤ margin account message
 
+-- A message lies within the allowance of its own word, nothing missing: so every message can be read.
+abbrev pub Own-word-within : Type 0
+Own-word-within =
+    (s : Scheme) → IsScheme s → (message : List ℕ) → IsMessage s message → Within s (λ i. Some (residue s message i)) message
+
 -- At most one message lies within the allowance of an account.
 abbrev pub One-within : Type 0
 One-within =

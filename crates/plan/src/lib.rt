@@ -19,6 +19,7 @@ pub use record::Record;
 use std::marker::PhantomData;
 pub use theorems::margins_apart;
 pub use theorems::one_message_within;
+pub use theorems::own_word_within;
 
 /// An accepted choice of field, k and moduli. It never changes.
 #[derive_where(Clone, Copy)]

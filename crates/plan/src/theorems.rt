@@ -1,5 +1,11 @@
 // What holds of every account under every lawful scheme. The functions do nothing: each asks for a theorem.
-ghost use Rattle.plan.specs.Accounts.{Margins-apart, One-within};
+ghost use Rattle.plan.specs.Accounts.{Margins-apart, One-within, Own-word-within};
+
+/// Every message lies within the allowance of its own word.
+pub fn own_word_within()
+    ensures { λ _. ⌜ Own-word-within ⌝ }
+{
+}
 
 /// At most one message lies within the allowance of an account.
 pub fn one_message_within()
