@@ -5,7 +5,7 @@ use Prim.Native.Nat.{ℕ, zero, suc, _+_, _-_, _*_, _/_, _%_, _<_, _≤_}
 use native.Mathlib.Nat.{add-assoc, add-comm, add-zero, mul-assoc, mul-comm, mul-one, mul-add, add-mul, zero-mul, mod-lt, mod-self, mod-eq-of-lt, mod-add-mod, add-mod-mod, div-add-mod, mul-add-mod-self-left}
 use native.Mathlib.Omega.{arith}
 use lib.Dec.{eqb}
-use Rattle.algebra.specs.Arithmetics.{modulo, reciprocal}
+use Rattle.algebra.specs.Arithmetics.{modulo, reciprocal, such-that}
 use Rattle.algebra.specs.Field.{FieldLaws, largest-order}
 use Rattle.algebra.proofs.Computed.{all-below, agree-below}
 use Rattle.algebra.proofs.Guarded.{LawsOnCodes, field-laws}
@@ -58,3 +58,12 @@ module _ (q : ℕ) (least : 2 ≤ q) (most : q ≤ largest-order) (test : invers
     times-reciprocal = has-inverse;
     times-zero = λ b _. ap (λ x. x % q) (zero-mul b) ∙ mod-eq-of-lt positive;
   }
+
+-- 2 and 257 are prime: the checker finds an inverse for every other number than 0.
+pub bit-laws : FieldLaws (modulo 2)
+unfolding reciprocal such-that
+bit-laws = residues 2 (omega arith) (omega arith) refl
+
+pub clock-laws : FieldLaws (modulo 257)
+unfolding reciprocal such-that
+clock-laws = residues 257 (omega arith) (omega arith) refl

@@ -3,6 +3,10 @@ ghost use Rattle.examples.specs.Worked.{WorkedExamples};
 
 #[cfg(test)]
 mod field_tests;
+#[cfg(test)]
+mod memory_tests;
+#[cfg(test)]
+mod plan_tests;
 
 /// Its contract is the list of worked examples, each a statement about the definitions that the contracts cite.
 pub fn worked_examples_hold()

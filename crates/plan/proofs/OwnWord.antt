@@ -19,6 +19,6 @@ own-word-within s h message is =
     let account : Account = λ i. Some (residue s message i) in
     let none-missing : missing s account ≡ 0 = over-none (positions s) in
     let none-wrong : wrong s account message ≡ 0 =
-        over-same (λ i. charge s message i (account i)) (λ _. 0) (positions s) (λ i _. own-charge s message i) ∙ over-none (positions s) in
+    over-same (λ i. charge s message i (account i)) (λ _. 0) (positions s) (λ i _. own-charge s message i) ∙ over-none (positions s) in
     let room : message-length s ≤ word-length s = start-most s (s .carriers) in
     record { is-message = is; margin-enough = omega (arith, ints) }

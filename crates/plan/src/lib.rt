@@ -9,9 +9,13 @@ mod tests_of_codes;
 mod theorems;
 
 pub use faults::EncodeFault;
+pub use faults::EncodeFaultDebug;
 pub use faults::EncodeFaultGround;
+pub use faults::EncodeFaultPartialEq;
 pub use faults::PlanFault;
+pub use faults::PlanFaultDebug;
 pub use faults::PlanFaultGround;
+pub use faults::PlanFaultPartialEq;
 pub use limits::MODULUS_CODES;
 pub use limits::MOST_POSITIONS;
 pub use limits::MOST_TOTAL;

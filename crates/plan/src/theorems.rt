@@ -4,8 +4,7 @@ ghost use Rattle.plan.specs.Accounts.{Margins-apart, One-within, Own-word-with
 /// Every message lies within the allowance of its own word.
 pub fn own_word_within()
     ensures { λ _. ⌜ Own-word-within ⌝ }
-{
-}
+{}
 
 /// At most one message lies within the allowance of an account.
 pub fn one_message_within()
