@@ -7,6 +7,8 @@ mod field_tests;
 mod memory_tests;
 #[cfg(test)]
 mod plan_tests;
+#[cfg(test)]
+mod reader_tests;
 
 /// Its contract is the list of worked examples, each a statement about the definitions that the contracts cite.
 pub fn worked_examples_hold()

@@ -1,7 +1,7 @@
 -- Euclid's algorithm on slices: two polynomials whose common divisors stay the same, until the second is zero.
-use mathlib.Core.Path.{_≡_, refl, sym, _∙_, ap, subst, fun-ext}
+use mathlib.Core.Path.{_≡_, sym, _∙_, ap, fun-ext}
 use mathlib.Core.List.{List}
-use mathlib.Core.Logic.{_≢_, inl, inr}
+use mathlib.Core.Logic.{inl, inr}
 use Prim.Native.Nat.{ℕ, zero, suc, _+_, _-_, _<_, _≤_}
 use native.Mathlib.Omega.{arith}
 use native.Mathlib.Decide.{ℕ-discrete, decLt}
@@ -14,10 +14,10 @@ use Rattle.std.proofs.shelf.Lists.{getD-set-same, getD-set-other}
 use Rattle.std.proofs.shelf.Tests.{ne-eqb}
 use Rattle.std.specs.Orderings.{When}
 use Rattle.algebra.specs.Field.{Arithmetic, FieldLaws}
-use Rattle.algebra.specs.Polynomial.{coefficients, Below, HasDegree, DegreeIs, add, subtract, multiply, IsPolynomial, IsDivision, Divides, ShareFactor}
+use Rattle.algebra.specs.Polynomial.{coefficients, Below, HasDegree, DegreeIs, subtract, multiply, IsPolynomial, IsDivision, Divides, ShareFactor}
 use Rattle.algebra.specs.Moduli.{monomial, nought}
-use Rattle.algebra.proofs.Coefficients.{upto, upto-before, upto-after, below-more, below-nought, list-polynomial, degree-monomial, degree-multiply, degree-one-only, degree-not-nought, monomial-polynomial, multiply-polynomial, multiply-nought, nought-multiply, nought-or-degree, add-comm, subtract-is}
-use Rattle.algebra.proofs.Residues.{divides-self, divides-nought, divides-multiple, divides-add, divides-subtract, divided-polynomial}
+use Rattle.algebra.proofs.Coefficients.{upto, upto-before, below-more, below-nought, list-polynomial, degree-monomial, degree-multiply, degree-one-only, degree-not-nought, monomial-polynomial, multiply-polynomial, multiply-nought, nought-multiply, nought-or-degree, add-comm, subtract-is}
+use Rattle.algebra.proofs.Residues.{divides-self, divides-nought, divides-multiple, divides-add, divides-subtract}
 use Rattle.poly.specs.Slices.{Codes, IsGcd, Significant, Divided, capacity}
 use Rattle.poly.proofs.Fronts.{significant-degree}
 use Rattle.poly.proofs.Scaled.{upto-other}

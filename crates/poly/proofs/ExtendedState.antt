@@ -1,21 +1,22 @@
 -- The states of the extended algorithm as their facts on coefficients, and as the theory has them: one step keeps them.
-use mathlib.Core.Path.{_≡_, refl, sym, _∙_, ap, subst, fun-ext}
-use mathlib.Core.List.{List, [], _∷_}
+use mathlib.Core.Path.{_≡_, refl, sym, _∙_, ap, fun-ext}
+use mathlib.Core.List.{List, _∷_}
 use mathlib.Core.Logic.{inl, inr}
-use Prim.Native.Nat.{ℕ, zero, suc, _+_, _-_, _<_, _≤_}
+use Prim.Native.Nat.{ℕ, zero, suc, _+_, _-_, _≤_}
 use native.Mathlib.Omega.{arith}
 use native.Mathlib.Decide.{decLt}
 use lib.ListN.{length, take, replicate}
 use Rattle.algebra.specs.Field.{Arithmetic, FieldLaws}
-use Rattle.algebra.specs.Polynomial.{Below, HasDegree, IsPolynomial, IsDivision, Divides, add, subtract, multiply, coefficients}
-use Rattle.algebra.specs.Moduli.{nought, one, monomial}
+use Rattle.algebra.specs.Polynomial.{Below, HasDegree, IsPolynomial, subtract, multiply, coefficients}
+use Rattle.algebra.specs.Moduli.{nought, one}
 use Rattle.algebra.proofs.Codes.{lift, codes-of, codes-polynomial, same-codes, codes-combination, under-from, below-from, degree-from, has-degree-from, divides-from, coded-divides-from}
-use Rattle.algebra.proofs.Coefficients.{degree-less, nought-or-degree, below-more}
+use Rattle.algebra.proofs.Coefficients.{degree-less, nought-or-degree}
 use Rattle.algebra.proofs.Reading.{Euclidean, euclid-start, euclid-step}
 use Rattle.algebra.proofs.Remainders.{zeros-nought}
 use Rattle.algebra.proofs.Residues.{quotient-degree}
-use Rattle.poly.specs.Extended.{Extended, Running, Stepped}
-use Rattle.poly.specs.Slices.{Codes, Divided, Significant, capacity}
+use Rattle.poly.specs.Extended.{Extended, Running}
+use Rattle.poly.specs.declared.steps.Euclid.{Euclid}
+use Rattle.poly.specs.Slices.{Divided, Significant, capacity}
 use Rattle.poly.proofs.Fronts.{front-is}
 
 -- How many codes are significant: none of zero, and else one more than the degree.
@@ -32,6 +33,14 @@ significant-most d p n h s =
 
 pub front-same : (xs : List ℕ) (n : ℕ) → n ≤ length xs → Significant (coefficients xs) n → coefficients (take (n - 0) xs) ≡ coefficients xs
 front-same xs n l s = let whole : n - 0 ≡ n = omega arith in rw whole (front-is xs n (s .above) l)
+
+-- What is taken off is the product of the whole slices.
+pub fronts-taken : (f : Arithmetic) (p x : ℕ → ℕ) (q t : List ℕ) (nq nt : ℕ) → nq ≤ length q → nt ≤ length t → Significant (coefficients q) nq
+    → Significant (coefficients t) nt → x ≡ subtract f p (multiply f (coefficients (take (nq - 0) q)) (coefficients (take (nt - 0) t)))
+    → x ≡ subtract f p (multiply f (coefficients q) (coefficients t))
+fronts-taken f p x q t nq nt lq lt sq st e =
+    e ∙ ap (λ (y : ℕ → ℕ). subtract f p (multiply f y (coefficients (take (nt - 0) t)))) (front-same q nq lq sq)
+    ∙ ap (λ (y : ℕ → ℕ). subtract f p (multiply f (coefficients q) y)) (front-same t nt lt st)
 
 module _ (f : Arithmetic) (L : FieldLaws f) where
   pub from-euclidean : (D : ℕ) (M Y p r t₀ t : ℕ → ℕ) → Euclidean f L D M Y p r t₀ t → Extended f D M Y p r t₀ t
@@ -117,20 +126,20 @@ module _ (f : Arithmetic) (L : FieldLaws f) where
       (euclid-step f L D e M Y p r t₀ t q n (to-euclidean D M Y p r t₀ t E) h (V .by-degree e h))
 
   -- The product of quotient and factor fits the buffer: its degree is that of the next factor.
-  pub counts-fit : (p r t₀ t : List ℕ) (q n : ℕ → ℕ) (nq nt : ℕ) → Running f p r t₀ t → Divided f (coefficients p) (coefficients r) q n
-      → Significant q nq → Significant (coefficients t) nt → nt ≤ capacity → nq + nt ≤ capacity + 1
-  counts-fit p r t₀ t q n nq nt R V sq st l =
-      let E = R .extended in
-      elim (nought-or-degree f L (coefficients r) (E .current-polynomial)) [
+  pub counts-fit : (e : Euclid) (q n : ℕ → ℕ) (nq nt : ℕ) → Running f e → Divided f (coefficients (e .previous)) (coefficients (e .current)) q n
+      → Significant q nq → Significant (coefficients (e .«t_current»)) nt → nt ≤ capacity → nq + nt ≤ capacity + 1
+  counts-fit e q n nq nt R V sq st l =
+      let E = R .holds in
+      elim (nought-or-degree f L (coefficients (e .current)) (E .current-polynomial)) [
         | inl z ↦
-            let zero-divisor : Below 0 (coefficients r) = λ i b. ap (λ (x : ℕ → ℕ). x i) z in
+            let zero-divisor : Below 0 (coefficients (e .current)) = λ i b. ap (λ (x : ℕ → ℕ). x i) z in
             omega (arith, significant-none q nq (V .by-zero zero-divisor .0) sq)
         | inr u ↦
-            let less = degree-less (u .0) (E .previous-degree) (coefficients r) (u .1) (E .current-below) in
+            let less = degree-less (u .0) (E .previous-degree) (coefficients (e .current)) (u .1) (E .current-below) in
             let hq =
-            quotient-degree f L (E .previous-degree) (u .0) (coefficients p) (coefficients r) q n (E .current-polynomial) (u .1) (V .by-degree (u .0) (u .1))
+            quotient-degree f L (E .previous-degree) (u .0) (coefficients (e .previous)) (coefficients (e .current)) q n (E .current-polynomial) (u .1) (V .by-degree (u .0) (u .1))
             (E .previous-has) (omega arith) in
-            omega (arith, significant-most (E .previous-degree - u .0) q nq hq sq, significant-most (E .t-degree) (coefficients t) nt (E .t-has) st, E .degrees, R .fits)
+            omega (arith, significant-most (E .previous-degree - u .0) q nq hq sq, significant-most (E .t-degree) (coefficients (e .«t_current»)) nt (E .t-has) st, E .degrees, R .fits)
       ]
 
 -- The buffers that start holds 0 and 1.

@@ -1,4 +1,4 @@
--- The significant codes of a slice, and division by them alone.
+-- The significant codes of a slice, division by them alone, and what a division leaves.
 use mathlib.Core.Path.{_≡_, refl, sym, _∙_, ap, subst, fun-ext}
 use mathlib.Core.List.{List}
 use Prim.Native.Nat.{ℕ, suc, _-_, _^_, _<_, _≤_}

@@ -1,5 +1,5 @@
 -- Long division on slices: what holds when the quotient's codes from z^k on are known.
-use mathlib.Core.Path.{_≡_, refl, sym, _∙_, ap, fun-ext}
+use mathlib.Core.Path.{_≡_, sym, _∙_, ap, fun-ext}
 use mathlib.Core.List.{List}
 use Prim.Native.Nat.{ℕ, suc, _+_, _-_, _<_, _≤_}
 use native.Mathlib.Omega.{arith}
@@ -8,7 +8,7 @@ use lib.ListN.{length, set}
 use Rattle.std.proofs.shelf.Lists.{getD-set-same, getD-set-other}
 use Rattle.algebra.specs.Field.{Arithmetic, FieldLaws}
 use Rattle.algebra.specs.Polynomial.{coefficients, Below, HasDegree, add, subtract, multiply, IsPolynomial, IsDivision}
-use Rattle.algebra.specs.Moduli.{monomial, nought}
+use Rattle.algebra.specs.Moduli.{monomial}
 use Rattle.algebra.proofs.Codes.{zero-sum}
 use Rattle.algebra.proofs.Coefficients.{list-polynomial, coefficients-below, monomial-at, monomial-off, monomial-polynomial, below-nought, below-more}
 use Rattle.algebra.proofs.Residues.{division-start, division-step, division-step-below}

@@ -1,15 +1,15 @@
 -- The loop that adds a multiple: p + c·z^s·(the first i terms of r), one term more with each turn.
-use mathlib.Core.Path.{_≡_, refl, sym, _∙_, ap, fun-ext}
+use mathlib.Core.Path.{_≡_, sym, _∙_, ap, fun-ext}
 use mathlib.Core.List.{List}
 use mathlib.Core.Logic.{_≢_}
-use Prim.Native.Nat.{ℕ, suc, _+_, _-_, _<_, _≤_}
+use Prim.Native.Nat.{ℕ, suc, _+_, _-_, _<_}
 use native.Mathlib.Omega.{arith}
 use native.Mathlib.Decide.{decLt, ℕ-discrete}
 use lib.ListN.{length, set}
 use Rattle.std.proofs.shelf.Lists.{getD-set-same, getD-set-other}
 use Rattle.algebra.specs.Field.{Arithmetic, FieldLaws}
 use Rattle.algebra.specs.Polynomial.{coefficients, add, multiply, IsPolynomial}
-use Rattle.algebra.specs.Moduli.{monomial, nought}
+use Rattle.algebra.specs.Moduli.{monomial}
 use Rattle.poly.specs.Slices.{Codes}
 use Rattle.algebra.proofs.Codes.{product-zero}
 use Rattle.algebra.proofs.Coefficients.{upto, upto-before, upto-after, upto-all, upto-polynomial, add-monomial-from, add-monomial-before, add-nought, multiply-nought, monomial-polynomial, coefficients-below}
@@ -78,5 +78,15 @@ module _ (f : Arithmetic) (L : FieldLaws f) where
       each : (j : ℕ) → coefficients (set p (s + i) (f .sum (coefficients p (s + i)) (f .product c (r i)))) j ≡ scaled-part p₀ c s (i + 1) r j
       each j = let e : suc i ≡ i + 1 = omega arith in rw e at (each-suc j)
 
-  pub scaled-all : (p : ℕ → ℕ) (c s : ℕ) (r : List ℕ) → scaled-part p c s (length r) (coefficients r) ≡ add f p (multiply f (monomial c s) (coefficients r))
-  scaled-all p c s r = ap (λ (q : ℕ → ℕ). add f p (multiply f (monomial c s) q)) (upto-all (length r) (coefficients r) (coefficients-below r))
+  -- The same for what the code computes: x is c·r_i and v the new code.
+  pub scaled-turn : (p₀ r : ℕ → ℕ) (c s i x v : ℕ) (p : List ℕ) → IsPolynomial f p₀ → IsPolynomial f r → c < f .order → s + i < length p
+      → x ≡ f .product c (r i) → v ≡ f .sum (coefficients p (s + i)) x → coefficients p ≡ scaled-part p₀ c s i r
+      → coefficients (set p (s + i) v) ≡ scaled-part p₀ c s (i + 1) r
+  scaled-turn p₀ r c s i x v p hp hr hc l ex ev e =
+      ap (λ y. coefficients (set p (s + i) y)) (ev ∙ ap (f .sum (coefficients p (s + i))) ex) ∙ scaled-more p₀ r c s i p hp hr hc l e
+
+  pub scaled-all : (p : ℕ → ℕ) (c s i : ℕ) (r xs : List ℕ) → i ≡ length r → coefficients xs ≡ scaled-part p c s i (coefficients r)
+      → coefficients xs ≡ add f p (multiply f (monomial c s) (coefficients r))
+  scaled-all p c s i r xs n e =
+      e ∙ ap (λ k. scaled-part p c s k (coefficients r)) n
+      ∙ ap (λ (q : ℕ → ℕ). add f p (multiply f (monomial c s) q)) (upto-all (length r) (coefficients r) (coefficients-below r))

@@ -1,11 +1,11 @@
 -- The loop that shifts a code into a residue, place by place from the lowest up.
-use mathlib.Core.Path.{_≡_, refl, sym, _∙_, ap}
+use mathlib.Core.Path.{_≡_, sym, _∙_, ap}
 use mathlib.Core.List.{List, _∷_}
 use Prim.Native.Nat.{ℕ, suc, _+_, _-_, _<_, _≤_}
 use native.Mathlib.Omega.{arith}
 use native.Mathlib.Decide.{ℕ-discrete}
 use lib.ListN.{length, set}
-use Rattle.std.proofs.shelf.Lists.{getD-set-same, getD-set-other, length-set, ext-getD}
+use Rattle.std.proofs.shelf.Lists.{getD-set-same, getD-set-other, ext-getD}
 use Rattle.algebra.specs.Field.{Arithmetic, FieldLaws}
 use Rattle.algebra.specs.Polynomial.{coefficients}
 use Rattle.algebra.specs.Remainder.{cleared}
@@ -27,13 +27,13 @@ Shifted f m code old i residue lower =
     × (lower ≡ coefficients (code ∷ old) i)
 
 module _ (f : Arithmetic) (L : FieldLaws f) (m : ℕ → ℕ) (code : ℕ) (old : List ℕ) where
-  pub shift-more : (i : ℕ) (residue : List ℕ) (lower top v : ℕ) → length residue ≡ length old → i < length residue
-      → top ≡ coefficients (code ∷ old) (length old) → v ≡ f .sum lower (f .negative (f .product top (m i))) → Shifted f m code old i residue lower
+  pub shift-more : (i : ℕ) (residue : List ℕ) (lower top x y v : ℕ) → length residue ≡ length old → i < length residue
+      → top ≡ coefficients (code ∷ old) (length old) → x ≡ f .product top (m i) → y ≡ f .negative x → v ≡ f .sum lower y → Shifted f m code old i residue lower
       → Shifted f m code old (i + 1) (set residue i v) (coefficients residue i)
-  shift-more i residue lower top v n l t e s = (below, above, s .1 i (omega arith) ∙ sym (cons-next code old i))
+  shift-more i residue lower top x y v n l t ex ey e s = (below, above, s .1 i (omega arith) ∙ sym (cons-next code old i))
     where
       here : v ≡ coefficients (cleared f (length old) m (code ∷ old)) i
-      here = e ∙ rw (s .2, t) (sym (cleared-at f L (length old) m (code ∷ old) i (omega arith)))
+      here = e ∙ rw (ey, ex, s .2, t) (sym (cleared-at f L (length old) m (code ∷ old) i (omega arith)))
 
       below : (k : ℕ) → k < i + 1 → coefficients (set residue i v) k ≡ coefficients (cleared f (length old) m (code ∷ old)) k
       below k b =

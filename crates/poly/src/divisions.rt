@@ -1,5 +1,4 @@
 // Division with remainder over two buffers.
-ghost use mathlib.Core.Path.{_≡_};
 ghost use Prim.Native.Nat.{_-_, _≤_, _<_};
 ghost use lib.ListN.{length};
 ghost use Rattle.algebra.specs.Polynomial.{Below, DegreeIs, IsDivision, coefficients};

@@ -24,13 +24,13 @@ fn shift_in<F: Field>(residue: &mut [u16], modulus: &[u16], code: u16)
 }
 
 /// The remainder of `p` by a modulus of degree d with leading code 1: the modulus has d + 1 codes and the residue d. The
-/// codes of `p` go in from the highest down. The codes that are written are those of the definition for any numbers;
-/// that they are the remainder takes codes of the field.
+/// codes of `p` go in from the highest down. Of numbers that are no codes, or another leading code, it is what the same
+/// operations give.
 pub fn reduce<F: Field>(p: &[u16], modulus: &[u16], residue: &mut [u16])
     requires least { ⌜ 1 ≤ length (now residue) ⌝ }
     requires fits { ⌜ length (now modulus) ≡ length (now residue) + 1 ⌝ }
     ensures value { λ _. ⌜ now (residue .exit) ≡ remainder (F·Field .arithmetic) (length (now (residue .entry))) (coefficients (now (modulus .entry))) (now (p .entry)) ⌝ }
-    ensures divided { λ _. ⌜ (coefficients (now (modulus .entry)) (length (now (residue .entry))) ≡ 1 → Codes (F·Field .arithmetic) (now (modulus .entry)) → Codes (F·Field .arithmetic) (now (p .entry)) → IsRemainder (F·Field .arithmetic) (length (now (residue .entry))) (coefficients (now (modulus .entry))) (coefficients (now (p .entry))) (coefficients (now (residue .exit)))) ⌝ }
+    ensures divided { λ _. ⌜ (Codes (F·Field .arithmetic) (now (p .entry)) → Codes (F·Field .arithmetic) (now (modulus .entry)) → coefficients (now (modulus .entry)) (length (now (residue .entry))) ≡ 1 → IsRemainder (F·Field .arithmetic) (length (now (residue .entry))) (coefficients (now (modulus .entry))) (coefficients (now (p .entry))) (coefficients (now (residue .exit)))) ⌝ }
     ensures codes { λ _. ⌜ Codes (F·Field .arithmetic) (now (residue .exit)) ⌝ }
 {
     residue.fill(0);

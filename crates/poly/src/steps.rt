@@ -5,7 +5,7 @@ ghost use lib.ListN.{length};
 ghost use Rattle.algebra.specs.Field.{Arithmetic, FieldLaws};
 ghost use Rattle.algebra.specs.Moduli.{nought, one};
 ghost use Rattle.algebra.specs.Polynomial.{Below, HasDegree, coefficients};
-ghost use Rattle.poly.specs.Extended.{Extended, Running, Stepped};
+ghost use Rattle.poly.specs.Extended.{Holds, Running, Stepped};
 ghost use Rattle.poly.specs.Slices.{Codes, capacity};
 use crate::degrees::significant;
 use crate::divisions::divide;
@@ -32,7 +32,7 @@ impl Euclid {
         ensures current { λ r. ⌜ coefficients (r .current) ≡ coefficients (now (y .entry)) ⌝ }
         ensures t_previous { λ r. ⌜ coefficients (r .«t_previous») ≡ nought ⌝ }
         ensures t_current { λ r. ⌜ coefficients (r .«t_current») ≡ one ⌝ }
-        ensures extended { λ r. ⌜ ((f : Arithmetic) → FieldLaws f → Codes f (now (m .entry)) → Codes f (now (y .entry)) → (D : ℕ) → HasDegree D (coefficients (now (m .entry))) → Below D (coefficients (now (y .entry))) → Extended f D (coefficients (now (m .entry))) (coefficients (now (y .entry))) (coefficients (r .previous)) (coefficients (r .current)) (coefficients (r .«t_previous»)) (coefficients (r .«t_current»))) ⌝ }
+        ensures extended { λ r. ⌜ ((f : Arithmetic) → FieldLaws f → Codes f (now (m .entry)) → Codes f (now (y .entry)) → (D : ℕ) → HasDegree D (coefficients (now (m .entry))) → Below D (coefficients (now (y .entry))) → Holds f D (coefficients (now (m .entry))) (coefficients (now (y .entry))) r) ⌝ }
     {
         let mut previous = [0; CAPACITY];
         let mut current = [0; CAPACITY];
@@ -51,9 +51,9 @@ impl Euclid {
 
     /// One division: the remainder becomes the current one, and its factor `t_previous - quotient·t_current`.
     pub fn step<F: Field>(&mut self)
-        requires { ⌜ Running (F·Field .arithmetic) (now self .previous) (now self .current) (now self .«t_previous») (now self .«t_current») ⌝ }
-        ensures stepped { λ _. ⌜ Stepped (F·Field .arithmetic) (now (self .entry) .previous) (now (self .entry) .current) (now (self .entry) .«t_previous») (now (self .entry) .«t_current») (now (self .exit) .previous) (now (self .exit) .current) (now (self .exit) .«t_previous») (now (self .exit) .«t_current») ⌝ }
-        ensures extended { λ _. ⌜ ((e D : ℕ) (M Y : ℕ → ℕ) → HasDegree e (coefficients (now (self .entry) .current)) → Extended (F·Field .arithmetic) D M Y (coefficients (now (self .entry) .previous)) (coefficients (now (self .entry) .current)) (coefficients (now (self .entry) .«t_previous»)) (coefficients (now (self .entry) .«t_current»)) → Extended (F·Field .arithmetic) D M Y (coefficients (now (self .exit) .previous)) (coefficients (now (self .exit) .current)) (coefficients (now (self .exit) .«t_previous»)) (coefficients (now (self .exit) .«t_current»))) ⌝ }
+        requires { ⌜ Running (F·Field .arithmetic) (now self) ⌝ }
+        ensures stepped { λ _. ⌜ Stepped (F·Field .arithmetic) (now (self .entry)) (now (self .exit)) ⌝ }
+        ensures extended { λ _. ⌜ ((e D : ℕ) (M Y : ℕ → ℕ) → HasDegree e (coefficients (now (self .entry) .current)) → Holds (F·Field .arithmetic) D M Y (now (self .entry)) → Holds (F·Field .arithmetic) D M Y (now (self .exit))) ⌝ }
     {
         let mut remainder = self.previous;
         let divisor = self.current;

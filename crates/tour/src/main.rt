@@ -13,6 +13,11 @@ use field::Field;
 use plan::EncodeFaultGround;
 use plan::Plan;
 use plan::PlanFaultGround;
+use reader::MARKS_TABLE;
+use reader::MISSING;
+use reader::ReaderFaultGround;
+use reader::WORD_TABLE;
+use reader::read;
 use std::error::AnyError;
 
 /// Solves gain · x + offset = level, where the gain is a code other than 0 and the others are codes.
@@ -111,7 +116,67 @@ fn show_word<F: Field, R: Print>(rt: &R, plan: &Plan<F>, word: &[u16]) -> Result
     Ok(())
 }
 
-/// Makes a plan and encodes a message under it.
+/// Reads what has arrived, and says what came of it.
+fn show_reading<F: Field, R: Print>(
+    rt: &R,
+    plan: &Plan<F>,
+    residues: &[u16; WORD_TABLE],
+    marks: &[u8; MARKS_TABLE],
+) -> Result<(), AnyError> {
+    match read(plan, residues, marks) {
+        Ok(reading) => {
+            print!(rt, "    reads")?;
+            for code in reading.message.iter().take(plan.message_length()) {
+                print!(rt, " {code}")?;
+            }
+            let margin = reading.margin;
+            let wrong = reading.wrong;
+            println!(
+                rt,
+                ", with margin {margin}, wrong positions of degree {wrong} in all."
+            )?;
+        }
+        Err(fault) => {
+            println!(rt, "    is refused: {}", fault.ground())?;
+        }
+    }
+    Ok(())
+}
+
+/// Damages the word and strikes a position, within the allowance and past it.
+fn show_damage<R: Print>(rt: &R, plan: &Plan<Bits>, word: &[u16; 7]) -> Result<(), AnyError> {
+    println!(
+        rt,
+        "Reading: the one message within the allowance, or none."
+    )?;
+    let mut residues = [0; WORD_TABLE];
+    let mut marks = [1; MARKS_TABLE];
+    for (place, code) in word.iter().enumerate() {
+        residues[place] = *code;
+    }
+    residues[0] = 0;
+    marks[3] = MISSING;
+    println!(
+        rt,
+        "  The word with its first code turned and its last position missing, 0|0|1 1|–,"
+    )?;
+    show_reading(rt, plan, &residues, &marks)?;
+    residues[0] = 1;
+    marks[3] = 1;
+    residues[4] = 0;
+    residues[5] = 0;
+    println!(
+        rt,
+        "  The word with its last position turned to zeros, 1|0|1 1|0 0 0,"
+    )?;
+    show_reading(rt, plan, &residues, &marks)?;
+    let mut marks = [MISSING; MARKS_TABLE];
+    marks[1] = 1;
+    println!(rt, "  One position of the four, –|0|–|–,")?;
+    show_reading(rt, plan, &residues, &marks)
+}
+
+/// Makes a plan, encodes a message under it, and reads it back.
 fn show_plan<R: Print>(rt: &R) -> Result<(), AnyError> {
     println!(
         rt,
@@ -140,7 +205,9 @@ fn show_plan<R: Print>(rt: &R) -> Result<(), AnyError> {
     match plan.encode(&[1, 1], &mut word) {
         Ok(()) => {
             print!(rt, "  The message 1 1, the polynomial 1 + z, has the word ")?;
-            show_word(rt, &plan, &word)
+            show_word(rt, &plan, &word)?;
+            show_refusal(rt)?;
+            show_damage(rt, &plan, &word)
         }
         Err(fault) => {
             println!(rt, "{}", fault.ground())?;
@@ -171,8 +238,7 @@ fn tour<R: Print>(rt: &R) -> Result<(), AnyError> {
     show_field::<Bits, R>(rt, "bits", 1, 1, 1)?;
     show_field::<Bytes, R>(rt, "bytes", 128, 2, 7)?;
     show_field::<Clock, R>(rt, "clock", 129, 2, 250)?;
-    show_plan(rt)?;
-    show_refusal(rt)
+    show_plan(rt)
 }
 
 fn main(rt: LibcRuntime) -> Result<(), AnyError> {

@@ -1,9 +1,9 @@
-use mathlib.Core.Path.{_≡_, sym, _∙_, ap}
+use mathlib.Core.Path.{_≡_, _∙_, ap}
 use Prim.Native.Nat.{_+_, _-_, _<_, _≤_}
 use native.Mathlib.Omega.{arith}
 use lib.ListN.{length}
 use Rattle.algebra.specs.Moduli.{monomial}
-use Rattle.algebra.specs.Polynomial.{coefficients, HasDegree, add, multiply}
+use Rattle.algebra.specs.Polynomial.{coefficients, add, multiply}
 use Rattle.algebra.proofs.Coefficients.{list-polynomial}
 use Rattle.poly.proofs.LongDivision.{Under-division, division-begins, division-goes-on, division-ends, leads}
 use Rattle.poly.proofs.divisions.divide_long.Needs as need

@@ -1,10 +1,7 @@
-use mathlib.Core.Path.{_≡_, refl, sym, _∙_, ap, subst}
+use mathlib.Core.Path.{_≡_, refl, sym, subst}
 use mathlib.Core.List.{List}
-use Prim.Native.Nat.{ℕ, _<_, _≤_}
-use native.Mathlib.Omega.{arith}
-use lib.ListN.{length}
+use Prim.Native.Nat.{ℕ}
 use Rattle.algebra.specs.Polynomial.{coefficients}
-use Rattle.algebra.proofs.Coefficients.{list-polynomial}
 use Rattle.poly.specs.Slices.{Codes, IsGcd}
 use Rattle.poly.proofs.Fronts.{kept-degree, loaded-codes}
 use Rattle.poly.proofs.CommonDivisors.{divisors-start, searching-again, searching-less, searching-ends}

@@ -1,9 +1,7 @@
 use mathlib.Core.Path.{_≡_, _∙_, ap}
-use Prim.Native.Nat.{_≤_}
 use native.Mathlib.Omega.{arith}
 use lib.ListN.{length}
-use Rattle.algebra.specs.Moduli.{monomial}
-use Rattle.algebra.specs.Polynomial.{coefficients, add, multiply, subtract}
+use Rattle.algebra.specs.Polynomial.{coefficients, multiply, subtract}
 use Rattle.algebra.proofs.Coefficients.{upto, multiply-upto-all, coefficients-below, list-polynomial}
 use Rattle.poly.proofs.Terms.{taken-none, taken-more}
 use Rattle.poly.proofs.products.subtract_product.Needs as need
@@ -27,12 +25,10 @@ loop-shift-again g c =
     let p = c .args .p .now in
     let a = c .args .a .now in
     let b = c .args .b .now in
-    let k = c .loop-shift .shift in
-    let less =
-    c .add-scaled .ensures .value
-    ∙ ap (λ n. add f (coefficients (c .loop-shift .p)) (multiply f (monomial n k) (coefficients b))) (c .negative .ensures) in (
+    let k = c .loop-shift .shift in (
       taken-more f L (coefficients a) (coefficients b) (list-polynomial f L a (c .pre .a-codes)) (list-polynomial f L b (c .pre .b-codes)) (coefficients p) k
-          (c .loop-shift .p) (c .add-scaled .last .p) (list-polynomial f L p (c .pre .p-codes)) (c .loop-shift .inv .0) less,
+          (c .negative .result) (c .loop-shift .p) (c .add-scaled .last .p) (list-polynomial f L p (c .pre .p-codes)) (c .negative .ensures) (c .loop-shift .inv .0)
+          (c .add-scaled .ensures .value),
       c .add-scaled .ensures .codes,
     )
 

@@ -1,36 +1,27 @@
-use mathlib.Core.List.{_∷_}
-use mathlib.Core.Path.{_≡_, refl, sym, _∙_, ap}
-use Prim.Native.Nat.{_-_, _<_, _≤_}
+use mathlib.Core.Path.{_≡_, sym, ap, subst}
+use Prim.Native.Nat.{ℕ}
 use native.Mathlib.Omega.{arith}
 use borrow.Author.Needs.{needs}
-use lib.ListN.{length, drop, replicate}
+use lib.ListN.{length, replicate}
 use Rattle.algebra.specs.Polynomial.{coefficients}
-use Rattle.algebra.specs.Remainder.{IsRemainder, cleared, remainder}
+use Rattle.algebra.specs.Remainder.{IsRemainder, remainder}
 use Rattle.algebra.proofs.Coefficients.{list-polynomial}
 use Rattle.algebra.proofs.Remainders.{remainder-codes, remainder-is}
 use Rattle.poly.specs.Slices.{Codes}
-use Rattle.poly.proofs.Reducing.{reduce-none, reduce-more, monic-degree}
+use Rattle.poly.proofs.Reducing.{reduce-none, reduce-more, reduce-all, monic-degree}
 use Rattle.poly.proofs.remainders.reduce.Needs as need
 
 pub loop-place-holds : need.loop-place-holds
 loop-place-holds g c =
-    let f = g .F·Field .arithmetic in
-    let m = coefficients (c .args .modulus .now) in
-    let p = c .args .p .now in
-    let zeros : c .fill .last .self ≡ replicate (length (c .args .residue .now)) 0 = search needs in
-    zeros ∙ ap (λ n. replicate n 0) (sym (c .fill .ensures .len)) ∙ reduce-none f (length (c .fill .last .self)) m p
+    let d = length (c .args .residue .now) in
+    let zeros : c .fill .last .self ≡ replicate d 0 = search needs in
+    reduce-none (g .F·Field .arithmetic) (coefficients (c .args .modulus .now)) (c .args .p .now) d (c .fill .last .self) (c .fill .ensures .len) zeros
 
 pub loop-place-again : need.loop-place-again
 loop-place-again g c =
-    let f = g .F·Field .arithmetic in
-    let m = coefficients (c .args .modulus .now) in
-    let p = c .args .p .now in
-    let d = length (c .fill .last .self) in
-    let code = coefficients p (c .loop-place .place - 1) in
-    c .shift-in .ensures
-    ∙ ap (λ n. cleared f n m (code ∷ c .loop-place .residue)) (c .loop-place .kept .residue)
-    ∙ ap (λ r. cleared f d m (code ∷ r)) (c .loop-place .inv)
-    ∙ reduce-more f d m p (c .loop-place .place) (c .loop-place-test .taken) (c .loop-place .kept .place)
+    reduce-more (g .F·Field .arithmetic) (coefficients (c .args .modulus .now)) (c .args .p .now) (length (c .fill .last .self)) (c .loop-place .place)
+    (c .loop-place .residue) (c .shift-in .last .residue) (c .loop-place-test .taken) (c .loop-place .kept .place) (c .loop-place .kept .residue)
+    (c .shift-in .ensures) (c .loop-place .inv)
 
 pub returns : need.returns
 returns g c =
@@ -42,12 +33,14 @@ returns g c =
     let d = length (c .args .residue .now) in
     let start : c .loop-place .place ≡ 0 = omega arith in
     let value : c .loop-place .residue ≡ remainder f d m p =
-    c .loop-place .inv ∙ ap (λ n. remainder f n m (drop (c .loop-place .place) p)) (c .fill .ensures .len)
-    ∙ ap (λ n. remainder f d m (drop n p)) start in
+    reduce-all f m p d (length (c .fill .last .self)) (c .loop-place .place) (c .loop-place .residue) (c .fill .ensures .len) start (c .loop-place .inv) in
+    let same : coefficients (remainder f d m p) ≡ coefficients (c .loop-place .residue) = ap coefficients (sym value) in
     let codes : Codes f (remainder f d m p) = remainder-codes f L d m p in
     record {
       value = value;
-      divided = λ monic modulus-codes p-codes.
-          rw value (remainder-is f L d m p (list-polynomial f L modulus modulus-codes) (monic-degree d modulus (c .pre .fits) monic) monic p-codes);
+      divided =
+          λ hp hm monic.
+          subst (λ (r : ℕ → ℕ). IsRemainder f d m (coefficients p) r) same
+          (remainder-is f L d m p (list-polynomial f L modulus hm) (monic-degree d modulus (c .pre .fits) monic) monic hp);
       codes = rw value codes;
     }

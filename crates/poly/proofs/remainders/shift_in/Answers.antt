@@ -1,5 +1,5 @@
-use mathlib.Core.Path.{_≡_, refl, _∙_, ap}
-use Prim.Native.Nat.{_<_, _≤_}
+use mathlib.Core.Path.{refl}
+use Prim.Native.Nat.{_-_, _<_, _≤_}
 use native.Mathlib.Omega.{arith}
 use lib.ListN.{length}
 use Rattle.algebra.specs.Polynomial.{coefficients}
@@ -12,11 +12,11 @@ loop-i-holds g c = (λ k b. absurd (omega arith), λ k b. refl, refl)
 pub loop-i-again : need.loop-i-again
 loop-i-again g c =
     let f = g .F·Field .arithmetic in
+    let old = c .args .residue .now in
     let l : c .loop-i .i < length (c .loop-i .residue) = omega arith in
-    let v = c .sum .ensures ∙ ap (f .sum (c .loop-i .lower)) (c .negative .ensures ∙ ap (f .negative) (c .product .ensures)) in
-    shift-more f (g .F·Field·met .lawful) (coefficients (c .args .modulus .now)) (c .args .code) (c .args .residue .now) (c .loop-i .i) (c .loop-i .residue)
-    (c .loop-i .lower) _ (c .sum .result) (c .loop-i .kept .residue) l (cons-last (c .args .code) (c .args .residue .now) (c .pre .least)) v
-    (c .loop-i .inv)
+    shift-more f (g .F·Field·met .lawful) (coefficients (c .args .modulus .now)) (c .args .code) old (c .loop-i .i) (c .loop-i .residue) (c .loop-i .lower)
+    (coefficients old (length old - 1)) (c .product .result) (c .negative .result) (c .sum .result) (c .loop-i .kept .residue) l
+    (cons-last (c .args .code) old (c .pre .least)) (c .product .ensures) (c .negative .ensures) (c .sum .ensures) (c .loop-i .inv)
 
 pub returns : need.returns
 returns g c =

@@ -1,11 +1,11 @@
-use mathlib.Core.Path.{_≡_, sym, _∙_, ap}
+use mathlib.Core.Path.{_≡_}
 use Prim.Native.Nat.{_+_, _<_}
 use native.Mathlib.Omega.{arith}
-use lib.ListN.{length, set}
+use lib.ListN.{length}
 use Rattle.algebra.specs.Moduli.{monomial}
 use Rattle.algebra.specs.Polynomial.{coefficients, add, multiply}
 use Rattle.algebra.proofs.Coefficients.{list-polynomial}
-use Rattle.poly.proofs.Scaled.{scaled-part, scaled-none, scaled-more, scaled-all, sum-codes}
+use Rattle.poly.proofs.Scaled.{scaled-none, scaled-turn, scaled-all, sum-codes}
 use Rattle.poly.proofs.sums.add_scaled.Needs as need
 
 pub loop-i-holds : need.loop-i-holds
@@ -22,12 +22,10 @@ loop-i-again g c =
     let L = g .F·Field·met .lawful in
     let p = c .args .p .now in
     let r = c .args .r .now in
-    let at = c .args .shift + c .loop-i .i in
-    let l : at < length (c .loop-i .p) = omega (arith, c .pre .fits) in
-    let v = c .sum .ensures ∙ ap (f .sum (coefficients (c .loop-i .p) at)) (c .product .ensures) in
-    ap (λ v. coefficients (set (c .loop-i .p) at v)) v
-    ∙ scaled-more f L (coefficients p) (coefficients r) (c .args .factor) (c .args .shift) (c .loop-i .i) (c .loop-i .p)
-    (list-polynomial f L p (c .pre .p-codes)) (list-polynomial f L r (c .pre .r-codes)) (c .pre .factor-code) l (c .loop-i .inv)
+    let l : c .args .shift + c .loop-i .i < length (c .loop-i .p) = omega (arith, c .pre .fits) in
+    scaled-turn f L (coefficients p) (coefficients r) (c .args .factor) (c .args .shift) (c .loop-i .i) (c .product .result) (c .sum .result) (c .loop-i .p)
+    (list-polynomial f L p (c .pre .p-codes)) (list-polynomial f L r (c .pre .r-codes)) (c .pre .factor-code) l (c .product .ensures) (c .sum .ensures)
+    (c .loop-i .inv)
 
 pub returns : need.returns
 returns g c =
@@ -37,6 +35,5 @@ returns g c =
     let r = c .args .r .now in
     let all : c .loop-i .i ≡ length r = omega arith in
     let value : coefficients (c .loop-i .p) ≡ add f p (multiply f (monomial (c .args .factor) (c .args .shift)) (coefficients r)) =
-    c .loop-i .inv ∙ ap (λ n. scaled-part f L p (c .args .factor) (c .args .shift) n (coefficients r)) all
-    ∙ scaled-all f L p (c .args .factor) (c .args .shift) r in
+    scaled-all f L p (c .args .factor) (c .args .shift) (c .loop-i .i) r (c .loop-i .p) all (c .loop-i .inv) in
     record { value = value; codes = sum-codes f L p _ (c .loop-i .p) value }

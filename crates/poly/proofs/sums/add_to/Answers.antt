@@ -1,4 +1,3 @@
-use mathlib.Core.Path.{_∙_}
 use Rattle.algebra.specs.Polynomial.{coefficients}
 use Rattle.algebra.proofs.Coefficients.{list-polynomial}
 use Rattle.poly.proofs.Terms.{add-one-multiple}
@@ -10,6 +9,8 @@ returns g c =
     let L = g .F·Field·met .lawful in
     let r = c .args .r .now in
     record {
-      value = c .add-scaled .ensures .value ∙ add-one-multiple f L (coefficients (c .args .p .now)) (coefficients r) (list-polynomial f L r (c .pre .r-codes));
+      value =
+          add-one-multiple f L (coefficients (c .args .p .now)) (coefficients r) (coefficients (c .add-scaled .last .p)) (list-polynomial f L r (c .pre .r-codes))
+          (c .add-scaled .ensures .value);
       codes = c .add-scaled .ensures .codes;
     }

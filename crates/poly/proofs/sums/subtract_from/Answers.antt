@@ -1,6 +1,4 @@
-use mathlib.Core.Path.{_∙_, ap}
-use Rattle.algebra.specs.Moduli.{monomial}
-use Rattle.algebra.specs.Polynomial.{coefficients, add, multiply}
+use Rattle.algebra.specs.Polynomial.{coefficients}
 use Rattle.algebra.proofs.Coefficients.{list-polynomial}
 use Rattle.poly.proofs.Terms.{add-minus-one-multiple}
 use Rattle.poly.proofs.sums.subtract_from.Needs as need
@@ -13,8 +11,7 @@ returns g c =
     let r = c .args .r .now in
     record {
       value =
-          c .add-scaled .ensures .value
-          ∙ ap (λ n. add f (coefficients p) (multiply f (monomial n 0) (coefficients r))) (c .negative .ensures)
-          ∙ add-minus-one-multiple f L (coefficients p) (coefficients r) (list-polynomial f L p (c .pre .p-codes)) (list-polynomial f L r (c .pre .r-codes));
+          add-minus-one-multiple f L (coefficients p) (coefficients r) (coefficients (c .add-scaled .last .p)) (c .negative .result)
+          (list-polynomial f L p (c .pre .p-codes)) (list-polynomial f L r (c .pre .r-codes)) (c .negative .ensures) (c .add-scaled .ensures .value);
       codes = c .add-scaled .ensures .codes;
     }

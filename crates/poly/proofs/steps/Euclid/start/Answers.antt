@@ -1,9 +1,8 @@
-use mathlib.Core.Path.{_≡_, refl, sym, _∙_, ap}
-use lib.ListN.{replicate}
-use Rattle.algebra.specs.Moduli.{nought, one}
 use Rattle.algebra.specs.Polynomial.{coefficients}
 use Rattle.algebra.proofs.Coefficients.{list-polynomial}
 use Rattle.algebra.proofs.Remainders.{zeros-nought}
+use Prim.Native.Nat.{_-_}
+use Rattle.poly.specs.Slices.{capacity}
 use Rattle.poly.proofs.ExtendedState.{extended-start, unit-is}
 use Rattle.poly.proofs.steps.Euclid.start.Needs as need
 
@@ -12,11 +11,11 @@ returns c =
     record {
       previous = c .load .ensures;
       current = c .load-2 .ensures;
-      t-previous = zeros-nought 65;
-      t-current = unit-is 64;
+      t-previous = zeros-nought capacity;
+      t-current = unit-is (capacity - 1);
       extended =
           λ f L hm hy D h k.
-          rw (c .load .ensures, c .load-2 .ensures, zeros-nought 65, unit-is 64)
+          rw (c .load .ensures, c .load-2 .ensures, zeros-nought capacity, unit-is (capacity - 1))
           (extended-start f L D (coefficients (c .args .m .now)) (coefficients (c .args .y .now)) (list-polynomial f L (c .args .m .now) hm)
           (list-polynomial f L (c .args .y .now) hy) h k);
     }

@@ -1,14 +1,14 @@
-use mathlib.Core.Path.{_≡_, refl, sym, _∙_, ap, subst}
-use Prim.Native.Nat.{ℕ, _-_, _<_, _≤_}
+use mathlib.Core.Path.{_≡_, refl, sym, subst}
+use Prim.Native.Nat.{ℕ, _-_}
 use native.Mathlib.Omega.{arith}
 use borrow.Author.Needs.{needs}
-use lib.ListN.{length, take}
+use lib.ListN.{length}
 use Rattle.std.proofs.shelf.Lists.{length-take-le}
 use Rattle.algebra.specs.Polynomial.{coefficients, multiply, subtract}
 use Rattle.poly.specs.Extended.{Extended}
 use Rattle.poly.specs.Slices.{capacity}
 use Rattle.poly.proofs.Fronts.{front-codes}
-use Rattle.poly.proofs.ExtendedState.{front-same, counts-fit, extended-step}
+use Rattle.poly.proofs.ExtendedState.{fronts-taken, counts-fit, extended-step}
 use Rattle.poly.proofs.steps.Euclid.step.Needs as need
 
 pub subtract-product-requires : need.subtract-product-requires
@@ -24,14 +24,14 @@ subtract-product-requires g c κs =
     let long : length (e .«t_previous») ≡ capacity = search needs in
     let wide : length (e .«t_current») ≡ capacity = search needs in
     let fit =
-    counts-fit f L (e .previous) (e .current) (e .«t_previous») (e .«t_current») (coefficients q) (coefficients (c .divide .last .remainder)) nq nt (c .pre)
+    counts-fit f L e (coefficients q) (coefficients (c .divide .last .remainder)) nq nt (c .pre)
     (c .divide .ensures .divided) (sq .is) (st .is) (omega (arith, st .within)) in
     record {
       fits =
           omega (arith, fit, long, length-take-le (nq - 0) q (omega (arith, sq .within)), length-take-le (nt - 0) (e .«t_current») (omega (arith, st .within)));
-      p-codes = c .pre .extended .t-previous-polynomial .codes;
+      p-codes = c .pre .holds .t-previous-polynomial .codes;
       a-codes = front-codes f q nq (sq .within) (sq .is) (c .divide .ensures .quotient-codes);
-      b-codes = front-codes f (e .«t_current») nt (st .within) (st .is) (c .pre .extended .t-polynomial .codes);
+      b-codes = front-codes f (e .«t_current») nt (st .within) (st .is) (c .pre .holds .t-polynomial .codes);
     }
 
 pub returns : need.returns
@@ -45,18 +45,15 @@ returns g c =
     let sq = c .significant-quotient-count .ensures in
     let st = c .significant-factor-count .ensures in
     let t-is : coefficients next ≡ subtract f (coefficients (e .«t_previous»)) (multiply f (coefficients q) (coefficients (e .«t_current»))) =
-    c .subtract-product .ensures .value
-    ∙ ap (λ (x : ℕ → ℕ). subtract f (coefficients (e .«t_previous»)) (multiply f x (coefficients (take (c .significant-factor-count .result - 0) (e .«t_current»)))))
-    (front-same q (c .significant-quotient-count .result) (sq .within) (sq .is))
-    ∙ ap (λ (x : ℕ → ℕ). subtract f (coefficients (e .«t_previous»)) (multiply f (coefficients q) x))
-    (front-same (e .«t_current») (c .significant-factor-count .result) (st .within) (st .is)) in
+    fronts-taken f (coefficients (e .«t_previous»)) (coefficients next) q (e .«t_current») (c .significant-quotient-count .result)
+    (c .significant-factor-count .result) (sq .within) (st .within) (sq .is) (st .is) (c .subtract-product .ensures .value) in
     record {
       stepped =
           record {
             quotient = coefficients q;
             divided = c .divide .ensures .divided;
-            previous-is = refl;
-            t-previous-is = refl;
+            previous-is = refl {a = e .current};
+            t-previous-is = refl {a = e .«t_current»};
             t-is = t-is;
             current-codes = c .divide .ensures .remainder-codes;
             t-codes = c .subtract-product .ensures .codes;

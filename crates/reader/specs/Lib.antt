@@ -1,0 +1,5 @@
+pub mod Answers
+pub mod Finding
+pub mod Gathering
+pub mod Joining
+pub mod Received
