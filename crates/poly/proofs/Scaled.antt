@@ -1,18 +1,18 @@
 -- The loop that adds a multiple: p + c·z^s·(the first i terms of r), one term more with each turn.
-use mathlib.Core.Path.{_≡_, sym, _∙_, ap, fun-ext}
+use mathlib.Core.Path.{_≡_, refl, sym, _∙_, ap, fun-ext}
 use mathlib.Core.List.{List}
 use mathlib.Core.Logic.{_≢_}
-use Prim.Native.Nat.{ℕ, suc, _+_, _-_, _<_}
+use Prim.Native.Nat.{ℕ, zero, suc, _+_, _-_, _<_}
 use native.Mathlib.Omega.{arith}
 use native.Mathlib.Decide.{decLt, ℕ-discrete}
 use lib.ListN.{length, set}
 use Rattle.std.proofs.shelf.Lists.{getD-set-same, getD-set-other}
 use Rattle.algebra.specs.Field.{Arithmetic, FieldLaws}
 use Rattle.algebra.specs.Polynomial.{coefficients, add, multiply, IsPolynomial}
-use Rattle.algebra.specs.Moduli.{monomial}
+use Rattle.algebra.specs.Moduli.{monomial, nought}
 use Rattle.poly.specs.Slices.{Codes}
 use Rattle.algebra.proofs.Codes.{product-zero}
-use Rattle.algebra.proofs.Coefficients.{upto, upto-before, upto-after, upto-all, upto-polynomial, add-monomial-from, add-monomial-before, add-nought, multiply-nought, monomial-polynomial, coefficients-below}
+use Rattle.algebra.proofs.Coefficients.{upto, upto-before, upto-after, upto-all, upto-polynomial, add-monomial-from, add-monomial-before, add-nought, multiply-nought, nought-multiply, monomial-polynomial, coefficients-below}
 
 -- The next term changes no other place.
 pub upto-other : (i : ℕ) (r : ℕ → ℕ) (t : ℕ) → t ≢ i → upto (suc i) r t ≡ upto i r t
@@ -22,7 +22,19 @@ upto-other i r t n =
       | no l ↦ upto-after (suc i) r t (omega arith) ∙ sym (upto-after i r t (omega arith))
     ]
 
+no-term : (k : ℕ) (i : ℕ) → monomial 0 k i ≡ 0
+no-term zero zero = refl
+no-term zero (suc i) = refl
+no-term (suc k) zero = refl
+no-term (suc k) (suc i) = no-term k i
+
 module _ (f : Arithmetic) (L : FieldLaws f) where
+  -- A multiple by 0 adds nothing.
+  pub nothing-added : (p r : ℕ → ℕ) (c s : ℕ) → IsPolynomial f p → IsPolynomial f r → c ≡ 0 → p ≡ add f p (multiply f (monomial c s) r)
+  nothing-added p r c s hp hr e =
+      let none : monomial c s ≡ nought = ap (λ n. monomial n s) e ∙ fun-ext (no-term s) in
+      sym (ap (λ (t : ℕ → ℕ). add f p (multiply f t r)) none ∙ ap (add f p) (nought-multiply f L r hr) ∙ add-nought f L p hp)
+
   -- A sum has codes.
   pub sum-codes : (p q : ℕ → ℕ) (xs : List ℕ) → coefficients xs ≡ add f p q → Codes f xs
   sum-codes p q xs e i = let h : coefficients xs i ≡ f .sum (p i) (q i) = ap (λ (r : ℕ → ℕ). r i) e in rw h (L .sum-below (p i) (q i))

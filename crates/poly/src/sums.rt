@@ -7,7 +7,8 @@ ghost use Rattle.algebra.specs.Polynomial.{add, coefficients, multiply, subtrac
 ghost use Rattle.poly.specs.Slices.{Codes};
 use field::Field;
 
-/// `p + factor·z^shift·r`, in the place of `p`.
+/// `p + factor·z^shift·r`, in the place of `p`. A factor of 0 costs nothing, so a division costs as many operations as its
+/// quotient and divisor have codes, however long the buffers are.
 pub fn add_scaled<F: Field>(p: &mut [u16], factor: u16, shift: usize, r: &[u16])
     requires fits { ⌜ shift + length (now r) ≤ length (now p) ⌝ }
     requires factor_code { ⌜ factor < F·Field .arithmetic .order ⌝ }
@@ -16,6 +17,9 @@ pub fn add_scaled<F: Field>(p: &mut [u16], factor: u16, shift: usize, r: &[u16])
     ensures value { λ _. ⌜ coefficients (now (p .exit)) ≡ add (F·Field .arithmetic) (coefficients (now (p .entry))) (multiply (F·Field .arithmetic) (monomial factor shift) (coefficients (now (r .entry)))) ⌝ }
     ensures codes { λ _. ⌜ Codes (F·Field .arithmetic) (now (p .exit)) ⌝ }
 {
+    if factor == 0 {
+        return;
+    }
     for (i, code) in r.iter().enumerate() {
         p[shift + i] = F::sum(p[shift + i], F::product(factor, *code));
     }

@@ -5,7 +5,7 @@ use lib.ListN.{length}
 use Rattle.algebra.specs.Moduli.{monomial}
 use Rattle.algebra.specs.Polynomial.{coefficients, add, multiply}
 use Rattle.algebra.proofs.Coefficients.{list-polynomial}
-use Rattle.poly.proofs.Scaled.{scaled-none, scaled-turn, scaled-all, sum-codes}
+use Rattle.poly.proofs.Scaled.{nothing-added, scaled-none, scaled-turn, scaled-all, sum-codes}
 use Rattle.poly.proofs.sums.add_scaled.Needs as need
 
 pub loop-i-holds : need.loop-i-holds
@@ -26,6 +26,19 @@ loop-i-again g c =
     scaled-turn f L (coefficients p) (coefficients r) (c .args .factor) (c .args .shift) (c .loop-i .i) (c .product .result) (c .sum .result) (c .loop-i .p)
     (list-polynomial f L p (c .pre .p-codes)) (list-polynomial f L r (c .pre .r-codes)) (c .pre .factor-code) l (c .product .ensures) (c .sum .ensures)
     (c .loop-i .inv)
+
+pub returns-then-factor-eq0 : need.returns-then-factor-eq0
+returns-then-factor-eq0 g c =
+    let f = g .F·Field .arithmetic in
+    let L = g .F·Field·met .lawful in
+    let p = c .args .p .now in
+    let r = c .args .r .now in
+    record {
+      value =
+          nothing-added f L (coefficients p) (coefficients r) (c .args .factor) (c .args .shift) (list-polynomial f L p (c .pre .p-codes))
+          (list-polynomial f L r (c .pre .r-codes)) (c .if-factor-eq0 .taken);
+      codes = c .pre .p-codes;
+    }
 
 pub returns : need.returns
 returns g c =
