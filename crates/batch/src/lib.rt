@@ -1,4 +1,6 @@
 //! Lists of calls, run on racks straight from their making: here stands the promise about every arrangement of calls.
+#![tactic(auto)]
+
 mod entry;
 mod faults;
 mod loading;

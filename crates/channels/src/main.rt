@@ -1,4 +1,6 @@
 // Two channels gather words side by side on one rack, and one of them reaches for the other's slot.
+#![tactic(auto)]
+
 use anyhow::anyhow;
 use fault::Fault;
 use field::{Bits, Field};

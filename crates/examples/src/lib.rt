@@ -1,4 +1,6 @@
 // The worked examples, as one theorem about the definitions, and the tests of the layers below.
+#![tactic(auto)]
+
 ghost use Rattle.examples.specs.Worked.{WorkedExamples};
 
 #[cfg(test)]

@@ -1,4 +1,6 @@
 //! Expressions for moduli: how they are written, what they are worth over a field, and how they are read from a sheet.
+#![tactic(auto)]
+
 mod limits;
 mod lines;
 mod names;

@@ -1,4 +1,6 @@
 //! How every refusal is shown: a number, the letter of the layer that refused, and two places.
+#![tactic(auto)]
+
 ghost use Rattle.std.specs.Prelude.{◌≡◌, Some};
 ghost use Rattle.fault.specs.declared.Ground.{Ground};
 ghost use Rattle.fault.specs.Shown.{letter_of, line};

@@ -1,5 +1,7 @@
 // Finite fields on codes: the interface that every field implements, and the three fields of the generator.
 // What a field means and the laws that it keeps are stated in the crate `algebra`.
+#![tactic(auto)]
+
 ghost use Rattle.std.specs.Prelude.{◌≡◌, if◌then◌else◌, nat_lt};
 ghost use Rattle.algebra.specs.Field.{Arithmetic, FieldLaws};
 

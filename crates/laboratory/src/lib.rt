@@ -1,4 +1,6 @@
 //! A memory that a laboratory wrote itself. docs/OWN-MEMORY.md goes through it step by step.
+#![tactic(auto)]
+
 mod mirrored;
 mod recall;
 

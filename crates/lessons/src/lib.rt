@@ -1,4 +1,6 @@
 // A lesson on the rack and the expressions of a sheet, as one theorem about the definitions, and the tests of the rack.
+#![tactic(auto)]
+
 ghost use Rattle.lessons.specs.Lessons.{LessonExamples};
 
 #[cfg(test)]

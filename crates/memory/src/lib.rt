@@ -1,4 +1,6 @@
 //! Cell memories: what a memory is, and the memories over a buffer that the caller lends.
+#![tactic(auto)]
+
 mod bytes;
 mod limits;
 mod meaning;

@@ -1,4 +1,6 @@
 // Plans: a field, k and pairwise coprime moduli; and the encoding of a message as its remainder word.
+#![tactic(auto)]
+
 mod encoding;
 mod faults;
 mod figures;

@@ -1,5 +1,6 @@
 //! Polynomials on slices of codes, lowest power first, over any field: inner work, so each function asks for codes of the
 //! field and for buffers that fit. Nothing is allocated.
+#![tactic(auto)]
 
 mod degrees;
 mod divisions;

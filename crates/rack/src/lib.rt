@@ -1,4 +1,6 @@
 //! The rack: slots that gather words for two channels over any memory, and the six calls on them.
+#![tactic(auto)]
+
 mod call;
 mod calls;
 mod cells;

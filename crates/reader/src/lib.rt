@@ -1,4 +1,6 @@
 // The reader: the one message within the allowance of what has arrived, past wrong and missing positions.
+#![tactic(auto)]
+
 mod answers;
 mod finding;
 mod gathering;

@@ -1,4 +1,6 @@
 //! The sheet, on which a laboratory writes its plan and its calls: exactly the lawful ones are read.
+#![tactic(auto)]
+
 mod call_lines;
 mod call_names;
 mod counts;

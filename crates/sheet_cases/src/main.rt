@@ -1,5 +1,7 @@
 //! Reads sheets from standard input, one to a line in base sixteen, and prints what came of each. An unrelated program
 //! (tools/sheet_cases.py) wrote both the sheets and what should come of them.
+#![tactic(auto)]
+
 ghost use Rattle.std.specs.Prelude.{◌<◌, IfOk};
 
 use anyhow::anyhow;

@@ -1,4 +1,6 @@
 //! The spreading layer: a memory whose neighbouring cells lie far apart in the memory below it.
+#![tactic(auto)]
+
 ghost use Rattle.std.specs.Prelude.{◌≡◌, ℕ, ◌<◌, ◌≤◌, length, if◌then◌else◌, Ok, Err, MatchOption};
 ghost use Rattle.memory.specs.Meaning.{max_cells};
 ghost use Rattle.spread.specs.Place.{Missing, Permutes, SetsIf, Stands, depth_ground, divides, place, placed, spread_row, spread_row_bounded};

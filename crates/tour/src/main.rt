@@ -1,4 +1,6 @@
 // A tour of the library: each layer does one real task and says what it did.
+#![tactic(auto)]
+
 ghost use Rattle.std.specs.Prelude.{◌≡◌, ◌<◌};
 
 use fault::Fault;

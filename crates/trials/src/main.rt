@@ -1,6 +1,8 @@
 // Draws plans over the three fields, with moduli of mixed degree, reducible ones among them; encodes messages, strikes and
 // damages their words, and holds the reader against the margin of what was sent and against a search over all messages.
 // The draws are fixed, so the counts are too.
+#![tactic(auto)]
+
 use field::{Bits, Bytes, Clock, Field};
 use plan::{MODULUS_CODES, Plan};
 use reader::{MARKS_TABLE, MESSAGE_TABLE, measure, read};
