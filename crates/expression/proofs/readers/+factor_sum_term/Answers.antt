@@ -17,7 +17,7 @@ pub factor-returns-in-Number : goal.factor-returns-in-Number
 factor-returns-in-Number t c =
     let (part, digits) = c.in-Number.ensures in
     let f = arithmetic_of c.args.field in
-    number_placed f c.args.left part digits (c.number_value.ensures ∙ ap (number_value f) c.numeral-of.ensures)
+    number_placed f c.args.left part digits (c.number_value.ensures ∙ ap (number_value f) c.numeral_of.ensures)
 
 pub factor-returns-in-End : goal.factor-returns-in-End
 factor-returns-in-End t c =
@@ -90,7 +90,7 @@ term-product-value-requires t c =
 pub term-loop-whole-preserved : goal.term-loop-whole-preserved
 term-loop-whole-preserved t c =
     joined by_times (arithmetic_of c.args.field) c.args.left c.args.sheet.now c.args.place c.loop-whole.whole.end c.requires.few
-    c.loop-whole.invariant c.loop-whole-test.true c.if-sheet-whole-eq42.true c.in-ok-next.ensures c.product-value.ensures
+    c.loop-whole.invariant c.loop-whole-test.true c.if-sheet-whole-eq42.true c.in-ok-next.ensures c.product_value.ensures
 
 -- A sum.
 pub sum-returns-in-err-whole : goal.sum-returns-in-err-whole

@@ -11,7 +11,7 @@ use Rattle.expression.proofs.readers.power.Goals.{else-place-sheet-via-else-plac
 pub returns-in-Number : goal.returns-in-Number
 returns-in-Number c f left =
     let (part, digits) = c.in-Number.ensures in
-    power_placed f left c.requires.letter c.if-sheet-place-eq94.true part digits (c.power_value.ensures ∙ ap power_value c.numeral-of.ensures)
+    power_placed f left c.requires.letter c.if-sheet-place-eq94.true part digits (c.power_value.ensures ∙ ap power_value c.numeral_of.ensures)
 
 pub returns-in-Word : goal.returns-in-Word
 returns-in-Word c f left =
@@ -33,7 +33,7 @@ returns-in-End c f left =
 
 pub returns-else-place-sheet : goal.returns-else-place-sheet
 returns-else-place-sheet c f left =
-    subst (Reading factor factor f left _ _ _) (sym c.power-value-else-place-sheet.ensures)
+    subst (Reading factor factor f left _ _ _) (sym c.power_value-else-place-sheet.ensures)
     (letter_read f left _ _ c.requires.starts c.requires.letter
     (elim c.else-place-sheet.branch [
       | else-place-sheet-via-then-place-sheet+else-sheet-place-eq94 w ↦ λ h e. w.if-sheet-place-eq94.false e

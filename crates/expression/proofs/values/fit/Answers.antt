@@ -12,5 +12,5 @@ returns-then-product-i-ne0 c = no_fit c.args.product.now (c.loop-i.invariant ∙
 pub returns : goal.returns
 returns c =
     let xs = c.args.product.now in
-    let copied : c.copy-from-slice.new.self ≡ take 9 xs = search rules in
+    let copied : c.copy_from_slice.new.self ≡ take 9 xs = search rules in
     ap Some copied ∙ fits xs (c.loop-i.invariant ∙ none_left xs c.loop-i.i (omega arith))

@@ -6,5 +6,5 @@ use Rattle.expression.proofs.values.sum_over.Goals as goal
 
 pub returns : goal.returns
 returns g c =
-    filled (add g.F.Field.arithmetic (coefficients c.args.p) (coefficients c.args.r)) c.add-to.new.p 9 (omega arith)
-    c.add-to.ensures.value
+    filled (add g.F.Field.arithmetic (coefficients c.args.p) (coefficients c.args.r)) c.add_to.new.p 9 (omega arith)
+    c.add_to.ensures.value

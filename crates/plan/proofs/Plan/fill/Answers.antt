@@ -30,8 +30,8 @@ slice-bounds-fill-position-end g c =
     let ends = record_ends g.F.Field.arithmetic c.args.self.now.record c.loop-i.i (omega (arith, c.loop-i-test.true, c.positions-i-end.ensures)) in
     omega (arith, c.start-from.ensures, c.start-end.ensures, c.loop-i.auto.buffer, c.requires)
 
-pub fill-position-requires : goal.fill-position-requires
-fill-position-requires g c =
+pub fill_position-requires : goal.fill_position-requires
+fill_position-requires g c =
     let ends = record_ends g.F.Field.arithmetic c.args.self.now.record c.loop-i.i (omega (arith, c.loop-i-test.true, c.positions-i-end.ensures)) in
     record {
       place = omega (arith, c.loop-i-test.true, c.positions-i-end.ensures);
@@ -45,9 +45,9 @@ loop-i-preserved g c =
     let i = c.loop-i.i in
     let from = c.start-from.result in
     let buffer = c.loop-i.buffer in
-    let part = c.fill-position.new.part in
+    let part = c.fill_position.new.part in
     let ends = record_ends g.F.Field.arithmetic c.args.self.now.record i (omega (arith, c.loop-i-test.true, c.positions-i-end.ensures)) in
-    let filled : part ≡ residue s message i = c.fill-position.ensures in
+    let filled : part ≡ residue s message i = c.fill_position.ensures in
     let long : length part ≡ degree s i = ap length filled ∙ residue_length s message i in
     take-put_mid from (c.start-end.result - from) buffer part (start s (i + 1)) (omega (arith, c.start-from.ensures)) (omega (arith, c.start-from.ensures, c.loop-i.auto.buffer, c.requires))
     ∙ ap (λ n. take n buffer ++ part) c.start-from.ensures

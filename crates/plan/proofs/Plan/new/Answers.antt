@@ -5,13 +5,13 @@ use Rattle.plan.proofs.Plan.new.Goals as goal
 pub returns-then-starts-n-gt-MOST-TOTAL : goal.returns-then-starts-n-gt-MOST-TOTAL
 returns-then-starts-n-gt-MOST-TOTAL g c =
     let shape = c.in-Some.ensures in
-    let end = end_is g.F.Field.arithmetic c.args.carriers c.args.codes.now c.in-Some.n shape.1 c.starts-of-starts.result c.starts-of-starts.ensures in
+    let end = end_is g.F.Field.arithmetic c.args.carriers c.args.codes.now c.in-Some.n shape.1 c.starts_of-starts.result c.starts_of-starts.ensures in
     (shape.0, c.in-default-first-bad-modulus.ensures, omega (arith, c.if-starts-n-gt-MOST-TOTAL.true))
 
 pub returns-in-Some-first-clash : goal.returns-in-Some-first-clash
 returns-in-Some-first-clash g c =
     let shape = c.in-Some.ensures in
-    let end = end_is g.F.Field.arithmetic c.args.carriers c.args.codes.now c.in-Some.n shape.1 c.starts-of-starts.result c.starts-of-starts.ensures in
+    let end = end_is g.F.Field.arithmetic c.args.carriers c.args.codes.now c.in-Some.n shape.1 c.starts_of-starts.result c.starts_of-starts.ensures in
     (shape.0, c.in-default-first-bad-modulus.ensures, omega (arith, c.if-starts-n-gt-MOST-TOTAL.false), c.in-Some-first-clash.ensures)
 
 pub invariant-of-record : goal.invariant-of-record
@@ -21,8 +21,8 @@ invariant-of-record g c =
     let k = c.args.carriers in
     let codes = c.args.codes.now in
     let n = c.in-Some.n in
-    let end = end_is f k codes n shape.1 c.starts-of-starts.result c.starts-of-starts.ensures in
-    let total = total_kept f k codes n shape.1 c.table-of.result c.table-of.ensures in (
+    let end = end_is f k codes n shape.1 c.starts_of-starts.result c.starts_of-starts.ensures in
+    let total = total_kept f k codes n shape.1 c.table_of.result c.table_of.ensures in (
       omega (arith, shape.0.enough, shape.1),
       (
         omega (arith, shape.0.few, shape.1),
@@ -31,9 +31,9 @@ invariant-of-record g c =
           (
             omega (arith, shape.0.spare, shape.1),
             (
-              starts_kept f k codes n shape.1 c.table-of.result c.table-of.ensures c.starts-of-starts.result c.starts-of-starts.ensures,
+              starts_kept f k codes n shape.1 c.table_of.result c.table_of.ensures c.starts_of-starts.result c.starts_of-starts.ensures,
               (
-                monic_kept f k codes n shape.1 c.table-of.result c.table-of.ensures c.in-default-first-bad-modulus.ensures,
+                monic_kept f k codes n shape.1 c.table_of.result c.table_of.ensures c.in-default-first-bad-modulus.ensures,
                 (omega (arith, c.if-starts-n-gt-MOST-TOTAL.false), tt),
               ),
             ),
@@ -49,8 +49,8 @@ returns g c =
     let k = c.args.carriers in
     let codes = c.args.codes.now in
     let n = c.in-Some.n in
-    let end = end_is f k codes n shape.1 c.starts-of-starts.result c.starts-of-starts.ensures in (
+    let end = end_is f k codes n shape.1 c.starts_of-starts.result c.starts_of-starts.ensures in (
       accepted f k codes n shape.1 shape.0 c.in-default-first-bad-modulus.ensures (omega (arith, c.if-starts-n-gt-MOST-TOTAL.false))
           c.in-default-first-clash.ensures,
-      scheme_kept f k codes n shape.1 c.table-of.result c.table-of.ensures,
+      scheme_kept f k codes n shape.1 c.table_of.result c.table_of.ensures,
     )

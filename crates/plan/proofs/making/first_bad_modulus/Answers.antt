@@ -7,8 +7,8 @@ use Rattle.plan.proofs.making.first_bad_modulus.Goals as goal
 pub loop-i-init : goal.loop-i-init
 loop-i-init g c = λ j h. absurd (omega arith)
 
-pub modulus-at-requires : goal.modulus-at-requires
-modulus-at-requires g c = group_within c.args.n c.loop-i.i c.args.codes.now c.requires c.loop-i-test.true
+pub modulus_at-requires : goal.modulus_at-requires
+modulus_at-requires g c = group_within c.args.n c.loop-i.i c.args.codes.now c.requires c.loop-i-test.true
 
 pub returns-then-not-is-modulus : goal.returns-then-not-is-modulus
 returns-then-not-is-modulus g c =

@@ -10,8 +10,8 @@ pairs-init g c = (refl, λ a b h. absurd (omega arith))
 pub loop-j-init : goal.loop-j-init
 loop-j-init g c = (c.pairs.invariant.0, λ b h k. absurd (omega arith))
 
-pub modulus-at-requires : goal.modulus-at-requires
-modulus-at-requires g c = group_within c.args.n c.pairs.i c.args.codes.now c.requires.whole c.pairs-test.true
+pub modulus_at-requires : goal.modulus_at-requires
+modulus_at-requires g c = group_within c.args.n c.pairs.i c.args.codes.now c.requires.whole c.pairs-test.true
 
 pub coprime-requires : goal.coprime-requires
 coprime-requires g c =
@@ -20,12 +20,12 @@ coprime-requires g c =
     let left : IsModulus f c.modulus_at.result.now =
     group_lawful f c.args.carriers codes c.args.n c.requires.whole c.requires.moduli c.pairs.i c.modulus_at.result.now
     c.pairs-test.true c.modulus_at.ensures.value in
-    let right : IsModulus f c.modulus-at-in-loop-j.result.now =
-    group_lawful f c.args.carriers codes c.args.n c.requires.whole c.requires.moduli c.loop-j.j c.modulus-at-in-loop-j.result.now
-    c.loop-j-test.true c.modulus-at-in-loop-j.ensures.value in
+    let right : IsModulus f c.modulus_at-in-loop-j.result.now =
+    group_lawful f c.args.carriers codes c.args.n c.requires.whole c.requires.moduli c.loop-j.j c.modulus_at-in-loop-j.result.now
+    c.loop-j-test.true c.modulus_at-in-loop-j.ensures.value in
     record {
       m-fits = omega (arith, c.modulus_at.ensures.long);
-      n-fits = omega (arith, c.modulus-at-in-loop-j.ensures.long);
+      n-fits = omega (arith, c.modulus_at-in-loop-j.ensures.long);
       m-codes = left.codes;
       n-codes = right.codes;
     }
@@ -40,8 +40,8 @@ loop-j-preserved g c =
         | yes same ↦ λ clash.
             c.if-not-coprime.ensures
             (clash_here f c.args.carriers c.args.codes.now c.args.n c.requires.whole i j c.modulus_at.result.now
-            c.modulus-at-in-loop-j.result.now c.pairs-test.true c.loop-j-test.true c.modulus_at.ensures.value
-            c.modulus-at-in-loop-j.ensures.value
+            c.modulus_at-in-loop-j.result.now c.pairs-test.true c.loop-j-test.true c.modulus_at.ensures.value
+            c.modulus_at-in-loop-j.ensures.value
             (subst (λ (x : ℕ). Clash (handed_in f c.args.carriers c.args.codes.now) i x) same clash))
         | no other ↦ c.loop-j.invariant.1 b h (omega arith)
       ],
@@ -72,8 +72,8 @@ returns-then-not-coprime g c =
       place = omega (arith, positions-are, c.requires.whole, c.loop-j-test.true);
       clash =
           clash_found f c.args.carriers c.args.codes.now c.args.n c.requires.whole c.pairs.i c.loop-j.j
-          c.modulus_at.result.now c.modulus-at-in-loop-j.result.now c.pairs-test.true c.loop-j-test.true
-          c.modulus_at.ensures.value c.modulus-at-in-loop-j.ensures.value c.if-not-coprime.ensures;
+          c.modulus_at.result.now c.modulus_at-in-loop-j.result.now c.pairs-test.true c.loop-j-test.true
+          c.modulus_at.ensures.value c.modulus_at-in-loop-j.ensures.value c.if-not-coprime.ensures;
       rows_before = λ a b h k l. c.pairs.invariant.1 a b h k (omega (arith, positions-are, c.requires.whole));
       before_in_row = c.loop-j.invariant.1;
     }

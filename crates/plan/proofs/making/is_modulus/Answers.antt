@@ -6,17 +6,17 @@ pub returns-then-is-some : goal.returns-then-is-some
 returns-then-is-some g c =
     let f = g.F.Field.arithmetic in
     let m = c.args.m.now in
-    no_modulus f m (codes_or_none f m c.first-no-code.result c.first-no-code.ensures (sym c.if-is-some.ensures))
+    no_modulus f m (codes_or_none f m c.first_no_code.result c.first_no_code.ensures (sym c.if-is-some.ensures))
 
 pub returns-then-d-lt-LEAST-DEGREE : goal.returns-then-d-lt-LEAST-DEGREE
 returns-then-d-lt-LEAST-DEGREE g c =
     let f = g.F.Field.arithmetic in
     let m = c.args.m.now in
-    no_modulus f m (constant_is_none f m c.degree-or-zero-d.result c.degree-or-zero-d.ensures.value c.if-d-lt-LEAST-DEGREE.true)
+    no_modulus f m (constant_is_none f m c.degree_or_zero-d.result c.degree_or_zero-d.ensures.value c.if-d-lt-LEAST-DEGREE.true)
 
 pub returns : goal.returns
 returns g c =
     let f = g.F.Field.arithmetic in
     let m = c.args.m.now in
-    monic_decides f m c.degree-or-zero-d.result c.degree-or-zero-d.ensures.value c.if-d-lt-LEAST-DEGREE.false
-    (codes_all f m c.first-no-code.result c.first-no-code.ensures (sym c.if-is-some.ensures))
+    monic_decides f m c.degree_or_zero-d.result c.degree_or_zero-d.ensures.value c.if-d-lt-LEAST-DEGREE.false
+    (codes_all f m c.first_no_code.result c.first_no_code.ensures (sym c.if-is-some.ensures))

@@ -4,8 +4,8 @@ use Rattle.poly.proofs.Fronts.{front_least, front_leads, front_codes, Left, left
 use Rattle.poly.proofs.divisions.divide.Goals as goal
 use Rattle.poly.proofs.divisions.divide.Goals.{then-count-gt0, else-count-gt0}
 
-pub divide-long-requires : goal.divide-long-requires
-divide-long-requires g c =
+pub divide_long-requires : goal.divide_long-requires
+divide_long-requires g c =
     let f = g.F.Field.arithmetic in
     let m = c.args.divisor.now in
     let n = c.significant-count.result in
@@ -16,7 +16,7 @@ divide-long-requires g c =
       leading = front_leads m n c.significant-count.ensures.within c.if-count-gt0.true c.significant-count.ensures.is;
       empty = zeros_below c.fill.new.self (length c.args.quotient.now) zeros;
       remainder_codes = c.requires.remainder_codes;
-      divisor-codes = front_codes f m n c.significant-count.ensures.within c.significant-count.ensures.is c.requires.divisor-codes;
+      divisor-codes = front_codes f m n c.significant-count.ensures.within c.significant-count.ensures.is c.requires.divisor_codes;
     }
 
 pub returns : goal.returns

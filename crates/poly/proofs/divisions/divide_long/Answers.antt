@@ -10,9 +10,9 @@ loop-shift-init g c =
     let f = g.F.Field.arithmetic in
     let L = g.met.F.Field.lawful in
     let m = c.args.divisor.now in
-    let l : length c.args.remainder.now ≤ length m - 1 + c.saturating-sub-shift.result = omega arith in
-    division_begins f L (length m - 1) (coefficients m) (list_polynomial f L m c.requires.divisor-codes) (leads m c.requires.divisor-least c.requires.leading)
-    c.saturating-sub-shift.result c.args.quotient.now c.args.remainder.now c.requires.remainder_codes l c.requires.empty
+    let l : length c.args.remainder.now ≤ length m - 1 + c.saturating_sub-shift.result = omega arith in
+    division_begins f L (length m - 1) (coefficients m) (list_polynomial f L m c.requires.divisor_codes) (leads m c.requires.divisor_least c.requires.leading)
+    c.saturating_sub-shift.result c.args.quotient.now c.args.remainder.now c.requires.remainder_codes l c.requires.empty
 
 pub loop-shift-preserved : goal.loop-shift-preserved
 loop-shift-preserved g c =
@@ -26,11 +26,11 @@ loop-shift-preserved g c =
     let l : k < length c.loop-shift.quotient = omega arith in
     let factor = c.product-factor.ensures ∙ ap (f.product (coefficients c.loop-shift.remainder (d + k))) c.inverse-inverse.ensures in
     let less =
-    c.add-scaled.ensures.value
+    c.add_scaled.ensures.value
     ∙ ap (λ n. add f (coefficients c.loop-shift.remainder) (multiply f (monomial n k) (coefficients m))) c.negative.ensures in
     let before : UnderDivision f d a (coefficients m) (k + 1) c.loop-shift.quotient c.loop-shift.remainder = rw next at c.loop-shift.invariant in
-    division_goes_on f L d (coefficients m) (list_polynomial f L m c.requires.divisor-codes) (leads m c.requires.divisor-least c.requires.leading) a k
-    c.product-factor.result c.loop-shift.quotient c.loop-shift.remainder c.add-scaled.new.p l factor less before
+    division_goes_on f L d (coefficients m) (list_polynomial f L m c.requires.divisor_codes) (leads m c.requires.divisor_least c.requires.leading) a k
+    c.product-factor.result c.loop-shift.quotient c.loop-shift.remainder c.add_scaled.new.p l factor less before
 
 pub returns : goal.returns
 returns g c =
@@ -41,5 +41,5 @@ returns g c =
     let a = coefficients c.args.remainder.now in
     let last : c.loop-shift.shift ≡ 0 = omega arith in
     let whole : UnderDivision f d a (coefficients m) 0 c.loop-shift.quotient c.loop-shift.remainder = rw last at c.loop-shift.invariant in
-    division_ends f L d (coefficients m) (list_polynomial f L m c.requires.divisor-codes) (leads m c.requires.divisor-least c.requires.leading) a
+    division_ends f L d (coefficients m) (list_polynomial f L m c.requires.divisor_codes) (leads m c.requires.divisor_least c.requires.leading) a
     c.loop-shift.quotient c.loop-shift.remainder whole

@@ -15,8 +15,8 @@ loop-count-init g c =
       previous_long = c.load.auto.buffer;
       current_long = c.load-2.auto.buffer;
       quotient_long = refl;
-      previous_codes = loaded_codes f c.load.new.buffer c.args.m.now c.load.ensures c.requires.m-codes;
-      current_codes = loaded_codes f c.load-2.new.buffer c.args.n.now c.load-2.ensures c.requires.n-codes;
+      previous_codes = loaded_codes f c.load.new.buffer c.args.m.now c.load.ensures c.requires.m_codes;
+      current_codes = loaded_codes f c.load-2.new.buffer c.args.n.now c.load-2.ensures c.requires.n_codes;
       counted = c.significant-count.ensures.is;
       divisors = rw (c.load.ensures, c.load-2.ensures) (divisors_start f L m n);
     }
@@ -41,8 +41,8 @@ returns g c =
     let m = coefficients c.args.m.now in
     let n = coefficients c.args.n.now in
     let previous = c.loop-count.previous in
-    let d = c.copy-from-slice.new.self in
-    let same : d ≡ previous = c.copy-from-slice.ensures.after in
+    let d = c.copy_from_slice.new.self in
+    let same : d ≡ previous = c.copy_from_slice.ensures.after in
     record {
       greatest =
           subst (λ (x : List ℕ). IsGcd f m n (coefficients x)) (sym same)

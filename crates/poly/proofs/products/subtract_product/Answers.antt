@@ -11,9 +11,9 @@ loop-shift-init g c =
     let p = c.args.p.now in
     let a = c.args.a.now in
     let b = c.args.b.now in (
-      taken_none f L (coefficients a) (coefficients b) (list_polynomial f L a c.requires.a-codes) (list_polynomial f L b c.requires.b-codes) (coefficients p)
-          (list_polynomial f L p c.requires.p-codes),
-      c.requires.p-codes,
+      taken_none f L (coefficients a) (coefficients b) (list_polynomial f L a c.requires.a_codes) (list_polynomial f L b c.requires.b_codes) (coefficients p)
+          (list_polynomial f L p c.requires.p_codes),
+      c.requires.p_codes,
     )
 
 pub loop-shift-preserved : goal.loop-shift-preserved
@@ -24,10 +24,10 @@ loop-shift-preserved g c =
     let a = c.args.a.now in
     let b = c.args.b.now in
     let k = c.loop-shift.shift in (
-      taken_more f L (coefficients a) (coefficients b) (list_polynomial f L a c.requires.a-codes) (list_polynomial f L b c.requires.b-codes) (coefficients p) k
-          c.negative.result c.loop-shift.p c.add-scaled.new.p (list_polynomial f L p c.requires.p-codes) c.negative.ensures c.loop-shift.invariant.0
-          c.add-scaled.ensures.value,
-      c.add-scaled.ensures.codes,
+      taken_more f L (coefficients a) (coefficients b) (list_polynomial f L a c.requires.a_codes) (list_polynomial f L b c.requires.b_codes) (coefficients p) k
+          c.negative.result c.loop-shift.p c.add_scaled.new.p (list_polynomial f L p c.requires.p_codes) c.negative.ensures c.loop-shift.invariant.0
+          c.add_scaled.ensures.value,
+      c.add_scaled.ensures.codes,
     )
 
 pub returns : goal.returns

@@ -16,8 +16,8 @@ loop-place-init g c =
 pub loop-place-preserved : goal.loop-place-preserved
 loop-place-preserved g c =
     reduce_more g.F.Field.arithmetic (coefficients c.args.modulus.now) c.args.p.now (length c.fill.new.self) c.loop-place.place
-    c.loop-place.residue c.shift-in.new.residue c.loop-place-test.true c.loop-place.auto.place c.loop-place.auto.residue
-    c.shift-in.ensures c.loop-place.invariant
+    c.loop-place.residue c.shift_in.new.residue c.loop-place-test.true c.loop-place.auto.place c.loop-place.auto.residue
+    c.shift_in.ensures c.loop-place.invariant
 
 pub returns : goal.returns
 returns g c =

@@ -10,8 +10,8 @@ loop-i-init g c =
     let f = g.F.Field.arithmetic in
     let L = g.met.F.Field.lawful in
     let p = c.args.p.now in
-    scaled_none f L (coefficients p) c.args.factor c.args.shift (coefficients c.args.r.now) (list_polynomial f L p c.requires.p-codes)
-    c.requires.factor-code
+    scaled_none f L (coefficients p) c.args.factor c.args.shift (coefficients c.args.r.now) (list_polynomial f L p c.requires.p_codes)
+    c.requires.factor_code
 
 pub loop-i-preserved : goal.loop-i-preserved
 loop-i-preserved g c =
@@ -21,7 +21,7 @@ loop-i-preserved g c =
     let r = c.args.r.now in
     let l : c.args.shift + c.loop-i.i < length c.loop-i.p = omega (arith, c.requires.fits) in
     scaled_turn f L (coefficients p) (coefficients r) c.args.factor c.args.shift c.loop-i.i c.product.result c.sum.result c.loop-i.p
-    (list_polynomial f L p c.requires.p-codes) (list_polynomial f L r c.requires.r_codes) c.requires.factor-code l c.product.ensures c.sum.ensures
+    (list_polynomial f L p c.requires.p_codes) (list_polynomial f L r c.requires.r_codes) c.requires.factor_code l c.product.ensures c.sum.ensures
     c.loop-i.invariant
 
 pub returns-then-factor-eq0 : goal.returns-then-factor-eq0
@@ -32,9 +32,9 @@ returns-then-factor-eq0 g c =
     let r = c.args.r.now in
     record {
       value =
-          nothing_added f L (coefficients p) (coefficients r) c.args.factor c.args.shift (list_polynomial f L p c.requires.p-codes)
+          nothing_added f L (coefficients p) (coefficients r) c.args.factor c.args.shift (list_polynomial f L p c.requires.p_codes)
           (list_polynomial f L r c.requires.r_codes) c.if-factor-eq0.true;
-      codes = c.requires.p-codes;
+      codes = c.requires.p_codes;
     }
 
 pub returns : goal.returns

@@ -10,7 +10,7 @@ returns g c =
     let r = c.args.r.now in
     record {
       value =
-          add_one_multiple f L (coefficients c.args.p.now) (coefficients r) (coefficients c.add-scaled.new.p) (list_polynomial f L r c.requires.r_codes)
-          c.add-scaled.ensures.value;
-      codes = c.add-scaled.ensures.codes;
+          add_one_multiple f L (coefficients c.args.p.now) (coefficients r) (coefficients c.add_scaled.new.p) (list_polynomial f L r c.requires.r_codes)
+          c.add_scaled.ensures.value;
+      codes = c.add_scaled.ensures.codes;
     }

@@ -11,7 +11,7 @@ returns g c =
     let r = c.args.r.now in
     record {
       value =
-          add_minus_one_multiple f L (coefficients p) (coefficients r) (coefficients c.add-scaled.new.p) c.negative.result
-          (list_polynomial f L p c.requires.p-codes) (list_polynomial f L r c.requires.r_codes) c.negative.ensures c.add-scaled.ensures.value;
-      codes = c.add-scaled.ensures.codes;
+          add_minus_one_multiple f L (coefficients p) (coefficients r) (coefficients c.add_scaled.new.p) c.negative.result
+          (list_polynomial f L p c.requires.p_codes) (list_polynomial f L r c.requires.r_codes) c.negative.ensures c.add_scaled.ensures.value;
+      codes = c.add_scaled.ensures.codes;
     }

@@ -7,7 +7,7 @@ use Rattle.rack.proofs.dispatch.perform.Goals as goal
 pub returns-in-Read : goal.returns-in-Read
 returns-in-Read g c = λ rack.
     let b = c.in-Read.buffer in
-    let lent = c.as-mut-slice.ensures.value in
+    let lent = c.as_mut_slice.ensures.value in
     let long : length c.read.new.buffer ≡ b.len = c.read.auto.buffer ∙ ap length lent ∙ sym b.ok.0 in
     read_carried _ _ _ _ _ c.in-Read.channel c.in-Read.slot _ _ _ _
     (ap given_by c.in-Read.is) lent c.found.ensures (with_items_is b c.read.new.buffer long) (c.read.ensures rack)

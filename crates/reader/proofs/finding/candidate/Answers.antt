@@ -11,8 +11,8 @@ returns-then-rest-gt0 g c =
     let f = g.F.Field.arithmetic in
     let L = g.met.F.Field.lawful in
     let K = c.args.message_length in
-    let S = c.half-way-euclid.ensures in
-    let e = c.half-way-euclid.result in
+    let S = c.half_way-euclid.ensures in
+    let e = c.half_way-euclid.result in
     let q = coefficients c.divide.new.quotient in
     let rest = coefficients c.divide.new.remainder in
     let V = c.divide.ensures.divided.by_degree S.t_degree S.t_has in
@@ -36,8 +36,8 @@ returns g c =
     let f = g.F.Field.arithmetic in
     let L = g.met.F.Field.lawful in
     let K = c.args.message_length in
-    let S = c.half-way-euclid.ensures in
-    let e = c.half-way-euclid.result in
+    let S = c.half_way-euclid.ensures in
+    let e = c.half_way-euclid.result in
     let quotient = c.divide.new.quotient in
     let rest = coefficients c.divide.new.remainder in
     let V = c.divide.ensures.divided.by_degree S.t_degree S.t_has in
@@ -49,7 +49,7 @@ returns g c =
     let none : Below 0 rest = below_more c.significant-rest.result 0 rest c.if-rest-gt0.false c.significant-rest.ensures.is.above in
     let whole = front_same quotient 64 table (omega arith) in
     let found : Quotient f K (coefficients e.current) (coefficients e.t_current) (Some (take (64 - 0) quotient)) = (
-      front_codes f quotient 64 table (omega arith) c.divide.ensures.quotient-codes,
+      front_codes f quotient 64 table (omega arith) c.divide.ensures.quotient_codes,
       subst (λ (x : ℕ → ℕ). Below K x) (sym whole) low,
       rw whole
           (quotient_exact f L K S.t_degree (coefficients e.current) (coefficients e.t_current) (coefficients quotient) rest S.t_polynomial S.t_has V none),
@@ -59,5 +59,5 @@ returns g c =
       t = coefficients e.t_current;
       stopped = S;
       quotient =
-          subst (λ (x : List ℕ). Quotient f K (coefficients e.current) (coefficients e.t_current) (Some x)) (sym c.copy-from-slice.ensures.after) found;
+          subst (λ (x : List ℕ). Quotient f K (coefficients e.current) (coefficients e.t_current) (Some x)) (sym c.copy_from_slice.ensures.after) found;
     }

@@ -13,9 +13,9 @@ returns-then-all-codes g c =
     let L = g.met.F.Field.lawful in
     let x = c.args.residue.now in
     let y = c.args.modulus.now in
-    same_from_decides c.all-codes-then-all-codes.result (all_below f.order y) c.all-codes-then-all-codes.ensures (decides_codes f L y)
+    same_from_decides c.all_codes-then-all-codes.result (all_below f.order y) c.all_codes-then-all-codes.ensures (decides_codes f L y)
     ∙ usable_last f.order c.args.mark x y c.if-mark-eq-MISSING.false
-    (sym (same_from_decides c.all-codes.result (all_below f.order x) c.all-codes.ensures (decides_codes f L x)) ∙ c.if-all-codes.true)
+    (sym (same_from_decides c.all_codes.result (all_below f.order x) c.all_codes.ensures (decides_codes f L x)) ∙ c.if-all-codes.true)
 
 pub returns-else-all-codes : goal.returns-else-all-codes
 returns-else-all-codes g c =
@@ -25,4 +25,4 @@ returns-else-all-codes g c =
     let y = c.args.modulus.now in
     c.if-all-codes.false
     ∙ usable_no_codes f.order c.args.mark x y
-    (sym (same_from_decides c.all-codes.result (all_below f.order x) c.all-codes.ensures (decides_codes f L x)) ∙ c.if-all-codes.false)
+    (sym (same_from_decides c.all_codes.result (all_below f.order x) c.all_codes.ensures (decides_codes f L x)) ∙ c.if-all-codes.false)

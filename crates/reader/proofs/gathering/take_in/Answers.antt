@@ -21,8 +21,8 @@ slice-bounds-join-end g c =
     let long = c.modulus-modulus.ensures.long c.requires.place in
     let residues = c.args.residues.now in
     let table : length residues ≡ 64 = search rules in
-    let ys-long : length c.part-at-residue.result.now ≡ degree s c.args.i =
-    ap length c.part-at-residue.ensures ∙ part_long s residues c.args.i c.requires.place (omega (arith, c.args.plan.now.record.short)) in
+    let ys-long : length c.part_at-residue.result.now ≡ degree s c.args.i =
+    ap length c.part_at-residue.ensures ∙ part_long s residues c.args.i c.requires.place (omega (arith, c.args.plan.now.record.short)) in
     omega (arith, ap length c.modulus-modulus.ensures.value, extent_length (modulus s c.args.i))
 
 pub join-requires : goal.join-requires
@@ -34,14 +34,14 @@ join-requires g c =
     let i = c.args.i in
     let residues = c.args.residues.now in
     let marks = c.args.marks.now in
-    let ys = c.part-at-residue.result.now in
+    let ys = c.part_at-residue.result.now in
     let ms = c.modulus-modulus.result.now in
     let ms-is = c.modulus-modulus.ensures.value in
-    let ys-is = c.part-at-residue.ensures in
+    let ys-is = c.part_at-residue.ensures in
     let table : length residues ≡ 64 = search rules in
     let ys-long : length ys ≡ degree s i = ap length ys-is ∙ part_long s residues i c.requires.place (omega (arith, r.short)) in
     let keep : kept s residues marks i ≡ true =
-    kept_told s L residues marks i ys ms c.is-kept.result true ys-is ms-is c.is-kept.ensures c.if-is-kept.true in
+    kept_told s L residues marks i ys ms c.is_kept.result true ys-is ms-is c.is_kept.ensures c.if-is-kept.true in
     let parts = kept_parts s L residues marks i keep in
     let ends = record_ends f r i c.requires.place in
     record {
@@ -63,14 +63,14 @@ returns-then-is-kept g c =
     let i = c.args.i in
     let residues = c.args.residues.now in
     let marks = c.args.marks.now in
-    let ys = c.part-at-residue.result.now in
+    let ys = c.part_at-residue.result.now in
     let ms = c.modulus-modulus.result.now in
     let ms-is = c.modulus-modulus.ensures.value in
-    let ys-is = c.part-at-residue.ensures in
+    let ys-is = c.part_at-residue.ensures in
     let table : length residues ≡ 64 = search rules in
     let ys-long : length ys ≡ degree s i = ap length ys-is ∙ part_long s residues i c.requires.place (omega (arith, r.short)) in
     let keep : kept s residues marks i ≡ true =
-    kept_told s L residues marks i ys ms c.is-kept.result true ys-is ms-is c.is-kept.ensures c.if-is-kept.true in
+    kept_told s L residues marks i ys ms c.is_kept.result true ys-is ms-is c.is_kept.ensures c.if-is-kept.true in
     let front : coefficients (take (length ys + 1 - 0) ms) ≡ coefficients (modulus s i) =
     ap (λ (m : List ℕ). coefficients (take (length ys + 1 - 0) m)) ms-is
     ∙ trimmed (modulus s i) (length ys + 1 - 0) (omega arith) in
@@ -84,6 +84,6 @@ returns-else-is-kept g c =
     let residues = c.args.residues.now in
     let marks = c.args.marks.now in
     gathered_left s L residues marks c.args.i c.args.joined.now
-    (kept_told s L residues marks c.args.i c.part-at-residue.result.now c.modulus-modulus.result.now c.is-kept.result false
-    c.part-at-residue.ensures c.modulus-modulus.ensures.value c.is-kept.ensures c.if-is-kept.false)
+    (kept_told s L residues marks c.args.i c.part_at-residue.result.now c.modulus-modulus.result.now c.is_kept.result false
+    c.part_at-residue.ensures c.modulus-modulus.ensures.value c.is_kept.ensures c.if-is-kept.false)
     c.requires.so_far

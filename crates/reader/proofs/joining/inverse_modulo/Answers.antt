@@ -35,8 +35,8 @@ loop-count-preserved g c =
       counted = c.significant-count-in-loop-count.ensures.is;
     }
 
-pub add-scaled-requires : goal.add-scaled-requires
-add-scaled-requires g c =
+pub add_scaled-requires : goal.add_scaled-requires
+add_scaled-requires g c =
     let f = g.F.Field.arithmetic in
     let L = g.met.F.Field.lawful in
     let long : length c.loop-count.euclid.t_previous ≡ 65 = search rules in
@@ -55,13 +55,13 @@ returns g c =
     let p = c.args.p.now in
     let e = c.loop-count.euclid in
     let n = c.loop-count.count in
-    let r = c.add-scaled.new.p in
+    let r = c.add_scaled.new.p in
     let value : coefficients r ≡ multiply f (monomial (f.inverse (coefficients e.previous 0)) 0) (coefficients e.t_previous) =
     scaled_value f L m p e n c.loop-count.invariant c.loop-count-test.false r c.inverse-factor.result c.inverse-factor.ensures
-    (c.add-scaled.ensures.value
+    (c.add_scaled.ensures.value
     ∙ ap (λ (x : ℕ → ℕ). add f x (multiply f (monomial c.inverse-factor.result 0) (coefficients e.t_previous))) (zeros_nought 65)) in
     record {
-      codes = c.add-scaled.ensures.codes;
+      codes = c.add_scaled.ensures.codes;
       below =
           subst (λ (x : ℕ → ℕ). Below (length m - 1) x) (sym value) (scaled_below f L m p e n c.loop-count.invariant c.loop-count-test.false);
       inverts =

@@ -17,6 +17,6 @@ returns g c =
     record {
       divided =
           remainder_padded f d e (coefficients m) (coefficients c.args.p.now) c.reduce.new.residue _ rest same
-          (c.reduce.ensures.divided c.requires.p-codes c.requires.modulus_codes (ap (coefficients m) same ∙ c.requires.monic));
+          (c.reduce.ensures.divided c.requires.p_codes c.requires.modulus_codes (ap (coefficients m) same ∙ c.requires.monic));
       codes = codes_padded f c.reduce.new.residue _ rest c.reduce.ensures.codes;
     }

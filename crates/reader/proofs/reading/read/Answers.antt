@@ -16,7 +16,7 @@ use Rattle.reader.proofs.reading.read.Goals.{After-margin-of-margin}
 pub overflow-sub-redundancy : goal.overflow-sub-redundancy
 overflow-sub-redundancy g c =
     let r = c.args.plan.now.record in
-    omega (arith, start_most (scheme g.F.Field.arithmetic r) r.carriers, c.word_length.ensures, c.message-length-message-length.ensures)
+    omega (arith, start_most (scheme g.F.Field.arithmetic r) r.carriers, c.word_length.ensures, c.message_length-message-length.ensures)
 
 pub returns-then-joined-message-length : goal.returns-then-joined-message-length
 returns-then-joined-message-length g c =
@@ -29,9 +29,9 @@ returns-then-joined-message-length g c =
     record {
       answer =
           λ h. (
-            omega (arith, c.word_length.ensures, c.message-length-message-length.ensures, c.missing-degrees-missing.ensures residues, c.if-missing-redundancy.false),
+            omega (arith, c.word_length.ensures, c.message_length-message-length.ensures, c.missing_degrees-missing.ensures residues, c.if-missing-redundancy.false),
             none_by_degree s g.met.F.Field.lawful h residues marks (omega (arith, r.short)) c.gather-joined.result c.gather-joined.ensures
-                (omega (arith, c.message-length-message-length.ensures, c.if-joined-message-length.true)),
+                (omega (arith, c.message_length-message-length.ensures, c.if-joined-message-length.true)),
           );
       padded = tt;
     }
@@ -46,19 +46,19 @@ returns-in-default g c =
     let j = c.gather-joined.result in
     let long : length residues ≡ 64 = search rules in
     let searched =
-    subst (λ (k : ℕ). Searched f j.degree k (coefficients j.product) (coefficients j.value) None) c.message-length-message-length.ensures
+    subst (λ (k : ℕ). Searched f j.degree k (coefficients j.product) (coefficients j.value) None) c.message_length-message-length.ensures
     c.in-default.ensures in
     record {
       answer =
           λ h. (
-            omega (arith, c.word_length.ensures, c.message-length-message-length.ensures, c.missing-degrees-missing.ensures residues, c.if-missing-redundancy.false),
+            omega (arith, c.word_length.ensures, c.message_length-message-length.ensures, c.missing_degrees-missing.ensures residues, c.if-missing-redundancy.false),
             none_by_search s g.met.F.Field.lawful h residues marks (omega (arith, r.short)) j c.gather-joined.ensures searched,
           );
       padded = tt;
     }
 
-pub margin-of-margin-requires : goal.margin-of-margin-requires
-margin-of-margin-requires g c =
+pub margin_of-margin-requires : goal.margin_of-margin-requires
+margin_of-margin-requires g c =
     let f = g.F.Field.arithmetic in
     let r = c.args.plan.now.record in
     let s = scheme f r in
@@ -66,13 +66,13 @@ margin-of-margin-requires g c =
     let all = figures f r (received s residues c.args.marks.now) (take (message_length s) c.in-Some.message) in
     record {
       redundancy = omega (arith, all.word_most, c.word_length.ensures);
-      erasures = omega (arith, all.word_most, all.charged_most, c.missing-degrees-missing.ensures residues);
-      errors = omega (arith, all.word_most, all.charged_most, c.wrong-degrees-wrong.ensures);
+      erasures = omega (arith, all.word_most, all.charged_most, c.missing_degrees-missing.ensures residues);
+      errors = omega (arith, all.word_most, all.charged_most, c.wrong_degrees-wrong.ensures);
     }
 
 -- The margin is the message's own, and the message is all that the search left.
 found : (g : given.Over) (c : After-margin-of-margin g)
-    → (to_z w32 (of_z w32 c.margin-of-margin.result)
+    → (to_z w32 (of_z w32 c.margin_of-margin.result)
     ≡ margin (scheme g.F.Field.arithmetic c.args.plan.now.record)
     (received (scheme g.F.Field.arithmetic c.args.plan.now.record) c.args.residues.now c.args.marks.now)
     (take (message_length (scheme g.F.Field.arithmetic c.args.plan.now.record)) c.in-Some.message))
@@ -89,23 +89,23 @@ found g c =
     let message = c.in-Some.message in
     let long : length residues ≡ 64 = search rules in
     let table : length message ≡ 64 = search rules in
-    let back : to_z w32 (of_z w32 c.margin-of-margin.result) ≡ c.margin-of-margin.result = search rules in
-    let told : c.margin-of-margin.result ≡ margin s (received s residues c.args.marks.now) (take (message_length s) message) =
+    let back : to_z w32 (of_z w32 c.margin_of-margin.result) ≡ c.margin_of-margin.result = search rules in
+    let told : c.margin_of-margin.result ≡ margin s (received s residues c.args.marks.now) (take (message_length s) message) =
     omega (
       arith,
       ints,
-      c.margin-of-margin.ensures,
+      c.margin_of-margin.ensures,
       start_most s r.carriers,
       c.word_length.ensures,
-      c.message-length-message-length.ensures,
-      c.missing-degrees-missing.ensures residues,
-      c.wrong-degrees-wrong.ensures,
+      c.message_length-message-length.ensures,
+      c.missing_degrees-missing.ensures residues,
+      c.wrong_degrees-wrong.ensures,
     ) in (
       back ∙ told,
       omega (arith, r.short),
       omega (arith, start_most s r.carriers, r.short),
       subst (λ (k : ℕ). Searched f j.degree k (coefficients j.product) (coefficients j.value) (Some message))
-          c.message-length-message-length.ensures c.in-Some.ensures,
+          c.message_length-message-length.ensures c.in-Some.ensures,
     )
 
 pub returns-then-margin-lt0 : goal.returns-then-margin-lt0
@@ -116,7 +116,7 @@ returns-then-margin-lt0 g c =
     record {
       answer =
           λ h. (
-            omega (arith, c.word_length.ensures, c.message-length-message-length.ensures, c.missing-degrees-missing.ensures residues, c.if-missing-redundancy.false),
+            omega (arith, c.word_length.ensures, c.message_length-message-length.ensures, c.missing_degrees-missing.ensures residues, c.if-missing-redundancy.false),
             none_by_margin s g.met.F.Field.lawful h residues c.args.marks.now facts.1 c.gather-joined.result c.gather-joined.ensures
                 c.in-Some.message facts.2 facts.3 (omega (arith, ints, facts.0, c.if-margin-lt0.true)),
           );
@@ -137,7 +137,7 @@ returns g c =
               margin_enough = omega (arith, ints, facts.0, c.if-margin-lt0.false);
             },
             facts.0,
-            c.wrong-degrees-wrong.ensures,
+            c.wrong_degrees-wrong.ensures,
           );
       padded = facts.3.quotient.1;
     }

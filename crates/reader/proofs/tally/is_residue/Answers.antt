@@ -37,5 +37,5 @@ returns g c =
     let d = c.degree-degree.result in
     let n = length (take (d - 0) (replicate {A = ℕ} modulus_codes 0)) in
     let long : n ≡ degree (scheme f r) i = simp length-take (omega (arith, c.degree-degree.ensures, degree_small f r i c.requires)) in
-    residue_told f r c.args.message.now c.modulus-modulus.result.now c.reduce.new.residue c.args.part.now i d n c.parts-equal.result
-    c.degree-degree.ensures long c.modulus-modulus.ensures.value c.reduce.ensures.value c.parts-equal.ensures
+    residue_told f r c.args.message.now c.modulus-modulus.result.now c.reduce.new.residue c.args.part.now i d n c.parts_equal.result
+    c.degree-degree.ensures long c.modulus-modulus.ensures.value c.reduce.ensures.value c.parts_equal.ensures

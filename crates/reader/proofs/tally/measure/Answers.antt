@@ -12,8 +12,8 @@ overflow-sub-redundancy g c =
     let r = c.args.plan.now.record in
     omega (arith, start_most (scheme g.F.Field.arithmetic r) r.carriers, c.word_length.ensures, c.message_length.ensures)
 
-pub margin-of-requires : goal.margin-of-requires
-margin-of-requires g c =
+pub margin_of-requires : goal.margin_of-requires
+margin_of-requires g c =
     let f = g.F.Field.arithmetic in
     let r = c.args.plan.now.record in
     let s = scheme f r in
@@ -21,8 +21,8 @@ margin-of-requires g c =
     let all = figures f r (received s residues c.args.marks.now) (take (message_length s) c.args.message.now) in
     record {
       redundancy = omega (arith, all.word_most, c.word_length.ensures);
-      erasures = omega (arith, all.word_most, all.charged_most, c.missing-degrees-missing.ensures residues);
-      errors = omega (arith, all.word_most, all.charged_most, c.wrong-degrees-wrong.ensures);
+      erasures = omega (arith, all.word_most, all.charged_most, c.missing_degrees-missing.ensures residues);
+      errors = omega (arith, all.word_most, all.charged_most, c.wrong_degrees-wrong.ensures);
     }
 
 pub returns : goal.returns
@@ -31,10 +31,10 @@ returns g c =
     omega (
       arith,
       ints,
-      c.margin-of.ensures,
+      c.margin_of.ensures,
       start_most (scheme g.F.Field.arithmetic r) r.carriers,
       c.word_length.ensures,
       c.message_length.ensures,
-      c.missing-degrees-missing.ensures c.args.residues.now,
-      c.wrong-degrees-wrong.ensures,
+      c.missing_degrees-missing.ensures c.args.residues.now,
+      c.wrong_degrees-wrong.ensures,
     )

@@ -9,8 +9,8 @@ use Rattle.reader.proofs.Tallied.{few_positions, lost_missing, lost_most, lost_p
 use Rattle.reader.proofs.tally.missing_degrees.Goals as goal
 use Rattle.reader.proofs.tally.missing_degrees.Goals.{then-is-missing, else-is-missing}
 
-pub is-missing-requires : goal.is-missing-requires
-is-missing-requires g c =
+pub is_missing-requires : goal.is_missing-requires
+is_missing-requires g c =
     omega (arith, c.loop-i-test.true, c.positions-i-end.ensures, few_positions g.F.Field.arithmetic c.args.plan.now.record)
 
 pub overflow-add-missing : goal.overflow-add-missing
@@ -32,8 +32,8 @@ loop-i-preserved g c residues =
     let before = c.loop-i.invariant residues in
     elim c.if-is-missing.branch [
       | then-is-missing w ↦
-          omega (arith, w.missing-is, w.degree-missing.ensures, lost_missing s residues marks i c.is-missing.result c.is-missing.ensures w.if-is-missing.true)
-      | else-is-missing w ↦ omega (arith, w.missing-is, lost_present s residues marks i c.is-missing.result c.is-missing.ensures w.if-is-missing.false)
+          omega (arith, w.missing-is, w.degree-missing.ensures, lost_missing s residues marks i c.is_missing.result c.is_missing.ensures w.if-is-missing.true)
+      | else-is-missing w ↦ omega (arith, w.missing-is, lost_present s residues marks i c.is_missing.result c.is_missing.ensures w.if-is-missing.false)
     ]
 
 pub returns : goal.returns

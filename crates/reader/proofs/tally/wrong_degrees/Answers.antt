@@ -16,17 +16,17 @@ overflow-add-wrong g c =
     let i = c.loop-i.i in
     let here : i < positions s = omega (arith, c.loop-i-test.true, c.positions-i-end.ensures) in
     let before = within_word s (λ j. charge s message j (account j)) i (λ j. charge_most s message j (account j)) (omega arith) in
-    omega (arith, c.loop-i.invariant, c.charge-at-wrong.ensures, charge_most s c.message-in-codes.result.now i (account i), start_room s i here, r.short)
+    omega (arith, c.loop-i.invariant, c.charge_at-wrong.ensures, charge_most s c.message_in-codes.result.now i (account i), start_room s i here, r.short)
 
-pub charge-at-wrong-requires : goal.charge-at-wrong-requires
-charge-at-wrong-requires g c = omega (arith, c.loop-i-test.true, c.positions-i-end.ensures)
+pub charge_at-wrong-requires : goal.charge_at-wrong-requires
+charge_at-wrong-requires g c = omega (arith, c.loop-i-test.true, c.positions-i-end.ensures)
 
 pub loop-i-preserved : goal.loop-i-preserved
 loop-i-preserved g c =
     let s = scheme g.F.Field.arithmetic c.args.plan.now.record in
     charges_more s (received s c.args.residues.now c.args.marks.now) (take (message_length s) c.args.message.now)
-    c.message-in-codes.result.now c.loop-i.i c.loop-i.wrong c.charge-at-wrong.result c.loop-i.invariant c.message-in-codes.ensures
-    c.charge-at-wrong.ensures
+    c.message_in-codes.result.now c.loop-i.i c.loop-i.wrong c.charge_at-wrong.result c.loop-i.invariant c.message_in-codes.ensures
+    c.charge_at-wrong.ensures
 
 pub returns : goal.returns
 returns g c =

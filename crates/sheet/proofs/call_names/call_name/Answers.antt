@@ -8,4 +8,4 @@ returns-in-default c = none_begins _ _ c.requires c.in-default.ensures
 pub returns-in-err-token : goal.returns-in-err-token
 returns-in-err-token c =
     let p = err_from_is_err_and c.from-residual.result c.from-residual.ensures.1 in
-    rw (p.1, p.2) (name_lost c.in-Some.name _ _ _ _ c.in-Some.ensures c.letters-of.ensures c.in-err-token.ensures)
+    rw (p.1, p.2) (name_lost c.in-Some.name _ _ _ _ c.in-Some.ensures c.letters_of.ensures c.in-err-token.ensures)

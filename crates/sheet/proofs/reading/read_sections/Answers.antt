@@ -18,16 +18,16 @@ pub returns-in-err-spare : goal.returns-in-err-spare
 returns-in-err-spare c =
     let p = err_from_is_err_and c.from-residual-in-err-spare.result c.from-residual-in-err-spare.ensures.1 in
     rw (p.1, p.2)
-    (spare_told _ _ _ _ (any_field _ _ _ _ c.in-ok-named.ensures) (any_moduli _ _ _ _ _ c.moduli-section.new.moduli _ c.in-ok-carrying.ensures) c.in-err-spare.ensures)
+    (spare_told _ _ _ _ (any_field _ _ _ _ c.in-ok-named.ensures) (any_moduli _ _ _ _ _ c.moduli_section.new.moduli _ c.in-ok-carrying.ensures) c.in-err-spare.ensures)
 
 pub returns-in-err-called : goal.returns-in-err-called
 returns-in-err-called c =
     let p = err_from_is_err_and c.from-residual-in-err-called.result c.from-residual-in-err-called.ensures.1 in
     rw (p.1, p.2)
-    (calls_told _ _ _ _ _ (any_field _ _ _ _ c.in-ok-named.ensures) (any_moduli _ _ _ _ _ c.moduli-section.new.moduli _ c.in-ok-carrying.ensures)
-    (any_moduli _ _ _ _ c.moduli-section.new.moduli c.moduli-section-2.new.moduli _ c.in-ok-spare.ensures) c.in-err-called.ensures)
+    (calls_told _ _ _ _ _ (any_field _ _ _ _ c.in-ok-named.ensures) (any_moduli _ _ _ _ _ c.moduli_section.new.moduli _ c.in-ok-carrying.ensures)
+    (any_moduli _ _ _ _ c.moduli_section.new.moduli c.moduli_section-2.new.moduli _ c.in-ok-spare.ensures) c.in-err-called.ensures)
 
 pub returns : goal.returns
 returns c =
-    drafted _ _ _ _ c.moduli-section.new.moduli c.moduli-section-2.new.moduli _ _ c.in-ok-called.called refl c.new.ensures.items c.in-ok-named.ensures c.in-ok-carrying.ensures
+    drafted _ _ _ _ c.moduli_section.new.moduli c.moduli_section-2.new.moduli _ _ c.in-ok-called.called refl c.new.ensures.items c.in-ok-named.ensures c.in-ok-carrying.ensures
     c.in-ok-spare.ensures c.in-ok-called.ensures

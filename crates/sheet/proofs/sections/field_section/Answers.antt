@@ -9,6 +9,6 @@ returns-in-err-counted c =
 
 pub returns : goal.returns
 returns c =
-    MatchResult-weaker c.field-line.result c.field-line.ensures
+    MatchResult-weaker c.field_line.result c.field_line.ensures
     (λ line h. field_got _ _ _ _ _ _ c.in-ok-counted.ensures h)
     (λ p h. field_name_lost _ _ _ _ _ c.in-ok-counted.ensures h)

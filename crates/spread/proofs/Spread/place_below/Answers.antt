@@ -8,7 +8,7 @@ returns g c =
     let depth = c.args.self.now.depth in
     let below = g.M.Memory.cells c.args.self.now.below in
     let j = c.args.j in
-    let value = c.place-of.ensures ∙ ap (λ n. placed depth n j) c.len.ensures in
+    let value = c.place_of.ensures ∙ ap (λ n. placed depth n j) c.len.ensures in
     record {
       value = value;
       stands = subst (λ r. MatchOption r (Missing depth below j) (Stands depth below j)) (sym value) (placed_stands depth below j);

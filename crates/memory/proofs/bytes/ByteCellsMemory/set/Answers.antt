@@ -7,7 +7,7 @@ pub returns : goal.returns
 returns c =
     let row = c.args.self.now.buffer.now in
     record {
-      sets = held_sets row c.args.j byte_top c.args.v c.put-byte.result c.put-byte.new.buffer c.put-byte.ensures.answer c.put-byte.ensures.after;
-      buffer = c.put-byte.ensures.after;
+      sets = held_sets row c.args.j byte_top c.args.v c.put_byte.result c.put_byte.new.buffer c.put_byte.ensures.answer c.put_byte.ensures.after;
+      buffer = c.put_byte.ensures.after;
       lender = refl;
     }

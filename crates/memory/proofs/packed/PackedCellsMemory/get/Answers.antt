@@ -4,4 +4,4 @@ use Rattle.memory.proofs.packed.PackedCellsMemory.get.Goals as goal
 
 pub returns : goal.returns
 returns c =
-    bits_gets c.args.self.now.buffer.now c.args.j bit_top c.bit-at.result c.bit-at.ensures.value c.bit-at.ensures.within
+    bits_gets c.args.self.now.buffer.now c.args.j bit_top c.bit_at.result c.bit_at.ensures.value c.bit_at.ensures.within

@@ -7,4 +7,4 @@ use Rattle.memory.proofs.packed.PackedCellsMemory.len.Goals as goal
 pub returns : goal.returns
 returns c =
     let bytes = c.args.self.now.buffer.now in
-    c.held-bits.ensures ∙ ap held_len (sym (bits_length bytes)) ∙ sym (held_length (bits bytes))
+    c.held_bits.ensures ∙ ap held_len (sym (bits_length bytes)) ∙ sym (held_length (bits bytes))

@@ -7,11 +7,11 @@ use Rattle.memory.proofs.packed.PackedCellsMemory.set.Goals as goal
 pub returns : goal.returns
 returns c =
     let bytes = c.args.self.now.buffer.now in
-    let bytes' = c.put-bit.new.buffer in
+    let bytes' = c.put_bit.new.buffer in
     let j = c.args.j in
     let v = c.args.v in
-    let b = c.put-bit.result in
-    let s = c.put-bit.ensures in
+    let b = c.put_bit.result in
+    let s = c.put_bit.ensures in
     let after = bits_after bytes j bit_top v b bytes' (get_or bytes' (j / byte_bits) 0) s.answer s.after s.there in
     record {
       sets = held_sets (bits bytes) j bit_top v b (bits bytes') (bits_taken bytes j bit_top v b s.answer) after;

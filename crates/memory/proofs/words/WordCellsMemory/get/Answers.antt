@@ -4,4 +4,4 @@ use Rattle.memory.proofs.words.WordCellsMemory.get.Goals as goal
 
 pub returns : goal.returns
 returns c =
-    held_gets c.args.self.now.buffer.now c.args.j max_top c.word-at.result c.word-at.ensures.value c.word-at.ensures.within
+    held_gets c.args.self.now.buffer.now c.args.j max_top c.word_at.result c.word_at.ensures.value c.word_at.ensures.within

@@ -7,7 +7,7 @@ pub returns : goal.returns
 returns c =
     let row = c.args.self.now.buffer.now in
     record {
-      sets = held_sets row c.args.j max_top c.args.v c.put-word.result c.put-word.new.buffer c.put-word.ensures.answer c.put-word.ensures.after;
-      buffer = c.put-word.ensures.after;
+      sets = held_sets row c.args.j max_top c.args.v c.put_word.result c.put_word.new.buffer c.put_word.ensures.answer c.put_word.ensures.after;
+      buffer = c.put_word.ensures.after;
       lender = refl;
     }

@@ -7,8 +7,8 @@ use Rattle.poly.proofs.Fronts.{front_codes}
 use Rattle.poly.proofs.ExtendedState.{fronts_taken, counts_fit, extended_step}
 use Rattle.poly.proofs.steps.Euclid.step.Goals as goal
 
-pub subtract-product-requires : goal.subtract-product-requires
-subtract-product-requires g c =
+pub subtract_product-requires : goal.subtract_product-requires
+subtract_product-requires g c =
     let f = g.F.Field.arithmetic in
     let L = g.met.F.Field.lawful in
     let e = c.args.self.now in
@@ -26,7 +26,7 @@ subtract-product-requires g c =
       fits =
           omega (arith, fit, long, length-take-le (nq - 0) q (omega (arith, sq.within)), length-take-le (nt - 0) e.t_current (omega (arith, st.within)));
       p-codes = c.requires.holds.t_previous_polynomial.codes;
-      a-codes = front_codes f q nq sq.within sq.is c.divide.ensures.quotient-codes;
+      a-codes = front_codes f q nq sq.within sq.is c.divide.ensures.quotient_codes;
       b-codes = front_codes f e.t_current nt st.within st.is c.requires.holds.t_polynomial.codes;
     }
 
@@ -37,12 +37,12 @@ returns g c =
     let e = c.args.self.now in
     let q = c.divide.new.quotient in
     let r = c.divide.new.remainder in
-    let next = c.subtract-product.new.p in
+    let next = c.subtract_product.new.p in
     let sq = c.significant-quotient-count.ensures in
     let st = c.significant-factor-count.ensures in
     let t_is : coefficients next ≡ subtract f (coefficients e.t_previous) (multiply f (coefficients q) (coefficients e.t_current)) =
     fronts_taken f (coefficients e.t_previous) (coefficients next) q e.t_current c.significant-quotient-count.result
-    c.significant-factor-count.result sq.within st.within sq.is st.is c.subtract-product.ensures.value in
+    c.significant-factor-count.result sq.within st.within sq.is st.is c.subtract_product.ensures.value in
     record {
       stepped =
           record {
@@ -52,7 +52,7 @@ returns g c =
             t_previous_is = refl {a = e.t_current};
             t_is = t_is;
             current_codes = c.divide.ensures.remainder_codes;
-            t_codes = c.subtract-product.ensures.codes;
+            t_codes = c.subtract_product.ensures.codes;
           };
       extended =
           λ d D M Y h E.

@@ -27,8 +27,8 @@ returns-in-err-check-message g c =
     (later_refuses r c.args.channel c.args.slot (measures c.args.channel c.args.slot c.args.message.now) _ refl
     c.in-ok-may-use.ensures _ c.in-err-check-message.ensures)
 
-pub message-table-requires : goal.message-table-requires
-message-table-requires g c =
+pub message_table-requires : goal.message_table-requires
+message_table-requires g c =
     let held = c.args.self.now.plan.record in
     let s = scheme g.F.Field.arithmetic held in
     let long = length_passes c.args.slot (message_length s) c.args.message.now
@@ -44,8 +44,8 @@ returns g c = λ rack.
     (first_none _ (no_code s c.args.slot c.args.message.now) (ok_settled _ c.in-ok-check-message.ensures)).0 in
     let back : to_z w32 (of_z w32 c.measure.result) ≡ c.measure.result = search rules in
     let account = account_used r c.args.channel c.args.slot c.in-ok-may-use.ensures ∙ sym (c.residues.ensures rack) in
-    let whole : take (message_length s) c.message-table.result ≡ c.args.message.now =
-    ap (λ n. take n c.message-table.result) (sym long) ∙ c.message-table.ensures in
+    let whole : take (message_length s) c.message_table.result ≡ c.args.message.now =
+    ap (λ n. take n c.message_table.result) (sym long) ∙ c.message_table.ensures in
     passes r request _ _
     (later_passes r c.args.channel c.args.slot request _ refl c.in-ok-may-use.ensures c.in-ok-check-message.ensures)
     (ap (λ m. Ok (Margin m)) (back ∙ c.measure.ensures ∙ ap (margin s _) whole ∙ ap (λ (a : Account). margin s a c.args.message.now) (sym account)), refl)

@@ -30,7 +30,7 @@ returns-in-err-check-length g c =
 pub slice-bounds-copy-from-slice-end : goal.slice-bounds-copy-from-slice-end
 slice-bounds-copy-from-slice-end g c =
     let held = c.args.self.now.plan.record in
-    omega (arith, c.message-length-in-Ok.ensures, start_most (scheme g.F.Field.arithmetic held) held.carriers, held.short)
+    omega (arith, c.message_length-in-Ok.ensures, start_most (scheme g.F.Field.arithmetic held) held.carriers, held.short)
 
 pub returns-in-Ok : goal.returns-in-Ok
 returns-in-Ok g c = λ rack.
@@ -38,8 +38,8 @@ returns-in-Ok g c = λ rack.
     let request = reads c.args.channel c.args.slot c.args.buffer.now in
     let right = ap (λ n. settled (wrong_length c.args.slot n c.args.buffer.now)) c.message_length.ensures in
     let back : to_z w32 (of_z w32 c.in-Ok.reading.margin) ≡ c.in-Ok.reading.margin = search rules in
-    let count : c.message-length-in-Ok.result - 0 ≡ message_length r.scheme = omega (arith, c.message-length-in-Ok.ensures) in
-    let filled = c.copy-from-slice.ensures.after ∙ ap (λ n. take n c.in-Ok.reading.message) count in
+    let count : c.message_length-in-Ok.result - 0 ≡ message_length r.scheme = omega (arith, c.message_length-in-Ok.ensures) in
+    let filled = c.copy_from_slice.ensures.after ∙ ap (λ n. take n c.in-Ok.reading.message) count in
     passes r request _ _
     (later_passes r c.args.channel c.args.slot request _ refl c.in-ok-may-use.ensures (c.in-ok-check-length.ensures ∙ right)) (
       _,

@@ -7,8 +7,8 @@ use Rattle.rack.proofs.table.Rack.residues.Goals as goal
 pub returns : goal.returns
 returns g c = λ rack.
     let r = state g.F.Field.arithmetic g.M.Memory.cells g.M.Memory.top c.args.self.now in
-    let n = c.word-length-count.result in
+    let n = c.word_length-count.result in
     let slots = c.args.self.now.slots.count in
     let room : c.args.slot * n + n ≤ length (g.M.Memory.cells c.args.self.now.memory) =
-    omega (arith, slot_room n c.args.slot slots c.requires, ap (λ m. slots * m) c.word-length-count.ensures, rack.fits.room) in
-    slot_loaded r c.args.slot n c.load.result c.word-length-count.ensures (c.load.ensures room)
+    omega (arith, slot_room n c.args.slot slots c.requires, ap (λ m. slots * m) c.word_length-count.ensures, rack.fits.room) in
+    slot_loaded r c.args.slot n c.load.result c.word_length-count.ensures (c.load.ensures room)

@@ -50,11 +50,11 @@ returns g c =
     below_more (suc j.degree) (j.degree + 1) (coefficients j.product) (omega arith) c.requires.state.has_degree.above in
     let front = front_same j.product (j.degree + 1) product_below (omega (arith, c.requires.room)) in
     joins f L m y j
-    (record { product = c.multiply-2.new.product; value = c.add-to.new.p; degree = j.degree + length y })
+    (record { product = c.multiply-2.new.product; value = c.add_to.new.p; degree = j.degree + length y })
     c.requires.state c.requires.pair factor c.correction-correction.ensures.codes c.requires.room
-    c.correction-correction.ensures.below c.correction-correction.ensures.closes c.multiply-2.ensures.codes c.add-to.ensures.codes refl
+    c.correction-correction.ensures.below c.correction-correction.ensures.closes c.multiply-2.ensures.codes c.add_to.ensures.codes refl
     (c.multiply-2.ensures.value ∙ ap (λ (x : ℕ → ℕ). multiply f x (coefficients m)) front)
-    (c.add-to.ensures.value
+    (c.add_to.ensures.value
     ∙ ap (λ (x : ℕ → ℕ). add f (coefficients j.value) x)
     (c.multiply.ensures.value
     ∙ ap (λ (x : ℕ → ℕ). multiply f x (coefficients (take (length y - 0) factor))) front
