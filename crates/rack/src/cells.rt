@@ -10,7 +10,7 @@ use reader::{MESSAGE_TABLE, WORD_TABLE};
 /// Sets the cells from `at` on to the codes. A memory that a rack fits takes every one of them, so no answer is looked at.
 pub(crate) fn store<M: Memory>(memory: &mut M, at: usize, codes: &[u16])
     requires { at + length codes.now ≤ max_cells }
-    ensures { Stored (cells memory.old) (top memory.old) at codes.now (cells memory.new) (top memory.new) }
+    ensures { Stored (M.cells memory.old) (M.top memory.old) at codes.now (M.cells memory.new) (M.top memory.new) }
 {
     for (i, code) in codes.iter().enumerate() {
         memory.set(at + i, *code);
@@ -19,7 +19,7 @@ pub(crate) fn store<M: Memory>(memory: &mut M, at: usize, codes: &[u16])
 
 // Cell j, or 0 where there is none.
 fn cell<M: Memory>(memory: &M, j: usize) -> u16
-    ensures { result ≡ slice_index (cells memory.now) j }
+    ensures { result ≡ slice_index (M.cells memory.now) j }
 {
     match memory.get(j) {
         Some(v) => v,
@@ -31,7 +31,7 @@ fn cell<M: Memory>(memory: &M, j: usize) -> u16
 pub(crate) fn load<M: Memory>(memory: &M, at: usize, count: usize) -> [u16; WORD_TABLE]
     requires place { at + count ≤ max_cells }
     requires few { count ≤ most_total }
-    ensures { at + count ≤ length (cells memory.now) → take count result ≡ take count (drop at (cells memory.now)) }
+    ensures { at + count ≤ length (M.cells memory.now) → take count result ≡ take count (drop at (M.cells memory.now)) }
 {
     let mut table = [0; WORD_TABLE];
     for i in 0..count {

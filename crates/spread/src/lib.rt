@@ -45,7 +45,7 @@ pub struct Spread<M: Memory> {
 impl<M: Memory> Spread<M> {
     /// Spreads a memory. The depth must divide its number of cells.
     pub fn new(below: M, depth: usize) -> Result<Spread<M>, NotSpread<M>>
-        ensures { result ≡ (if divides depth (length (cells below)) then Ok (record { below = below; depth = depth }) else Err (record { below = below; fault = record {} })) }
+        ensures { result ≡ (if divides depth (length (M.cells below)) then Ok (record { below = below; depth = depth }) else Err (record { below = below; fault = record {} })) }
     {
         if depth == 0 || below.len() % depth != 0 {
             return Err(NotSpread {
@@ -66,9 +66,9 @@ impl<M: Memory> Spread<M> {
 
     /// Where cell j lies below, or nothing when there is no cell j.
     pub fn place_below(&self, j: usize) -> Option<usize>
-        ensures value { result ≡ placed self.now.depth (length (cells self.now.below)) j }
-        ensures stands { MatchOption result (Missing self.now.depth (cells self.now.below) j) (Stands self.now.depth (cells self.now.below) j) }
-        ensures numbering { Permutes (length (cells self.now.below)) (place self.now.depth (length (cells self.now.below))) }
+        ensures value { result ≡ placed self.now.depth (length (M.cells self.now.below)) j }
+        ensures stands { MatchOption result (Missing self.now.depth (M.cells self.now.below) j) (Stands self.now.depth (M.cells self.now.below) j) }
+        ensures numbering { Permutes (length (M.cells self.now.below)) (place self.now.depth (length (M.cells self.now.below))) }
     {
         place_of(self.depth, self.below.len(), j)
     }
@@ -90,7 +90,7 @@ fn place_of(depth: usize, len: usize, j: usize) -> Option<usize>
 
 // Sets the cell at this place, if there is one.
 fn set_if<M: Memory>(memory: &mut M, at: Option<usize>, v: u16) -> bool
-    ensures { SetsIf at (cells memory.old) (top memory.old) v result (cells memory.new) (top memory.new) }
+    ensures { SetsIf at (M.cells memory.old) (M.top memory.old) v result (M.cells memory.new) (M.top memory.new) }
 {
     match at {
         Some(j) => memory.set(j, v),

@@ -79,12 +79,12 @@ term-returns-in-err-next t c =
     (joined_stopped by_times (arithmetic_of c.args.field) _ _ _ _ c.requires.few c.loop-whole.invariant c.loop-whole-test.true
     c.if-sheet-whole-eq42.true c.in-err-next.ensures)
 
-pub term-product-value-requires : goal.term-product-value-requires
-term-product-value-requires t c =
+pub term-product_value-requires : goal.term-product_value-requires
+term-product_value-requires t c =
     let next = c.in-ok-next.ensures in
     record {
-      a-codes = codes_in_field c.args.field c.loop-whole.invariant.expression c.loop-whole.invariant.value_is;
-      b-codes = codes_in_field c.args.field next.expression next.value_is;
+      a_codes = codes_in_field c.args.field c.loop-whole.invariant.expression c.loop-whole.invariant.value_is;
+      b_codes = codes_in_field c.args.field next.expression next.value_is;
     }
 
 pub term-loop-whole-preserved : goal.term-loop-whole-preserved
@@ -108,12 +108,12 @@ sum-returns-in-err-next t c =
     (joined_stopped by_plus (arithmetic_of c.args.field) _ _ _ _ c.requires.few c.loop-whole.invariant c.loop-whole-test.true
     c.if-sheet-whole-eq43.true c.in-err-next.ensures)
 
-pub sum-sum-value-requires : goal.sum-sum-value-requires
-sum-sum-value-requires t c =
+pub sum-sum_value-requires : goal.sum-sum_value-requires
+sum-sum_value-requires t c =
     let next = c.in-ok-next.ensures in
     record {
-      a-codes = codes_in_field c.args.field c.loop-whole.invariant.expression c.loop-whole.invariant.value_is;
-      b-codes = codes_in_field c.args.field next.expression next.value_is;
+      a_codes = codes_in_field c.args.field c.loop-whole.invariant.expression c.loop-whole.invariant.value_is;
+      b_codes = codes_in_field c.args.field next.expression next.value_is;
     }
 
 pub sum-loop-whole-preserved : goal.sum-loop-whole-preserved

@@ -15,18 +15,18 @@ offset-bounds-buffer-from g c =
     let ends = record_ends g.F.Field.arithmetic c.args.self.now.record c.loop-i.i (omega (arith, c.loop-i-test.true, c.positions-i-end.ensures)) in
     omega (arith, c.start-from.ensures)
 
-pub slice-bounds-fill-position-count : goal.slice-bounds-fill-position-count
-slice-bounds-fill-position-count g c =
+pub slice-bounds-fill_position-count : goal.slice-bounds-fill_position-count
+slice-bounds-fill_position-count g c =
     let ends = record_ends g.F.Field.arithmetic c.args.self.now.record c.loop-i.i (omega (arith, c.loop-i-test.true, c.positions-i-end.ensures)) in
     omega (arith, c.start-from.ensures, c.start-end.ensures)
 
-pub slice-bounds-fill-position-start : goal.slice-bounds-fill-position-start
-slice-bounds-fill-position-start g c =
+pub slice-bounds-fill_position-start : goal.slice-bounds-fill_position-start
+slice-bounds-fill_position-start g c =
     let ends = record_ends g.F.Field.arithmetic c.args.self.now.record c.loop-i.i (omega (arith, c.loop-i-test.true, c.positions-i-end.ensures)) in
     omega (arith, c.start-from.ensures, c.start-end.ensures)
 
-pub slice-bounds-fill-position-end : goal.slice-bounds-fill-position-end
-slice-bounds-fill-position-end g c =
+pub slice-bounds-fill_position-end : goal.slice-bounds-fill_position-end
+slice-bounds-fill_position-end g c =
     let ends = record_ends g.F.Field.arithmetic c.args.self.now.record c.loop-i.i (omega (arith, c.loop-i-test.true, c.positions-i-end.ensures)) in
     omega (arith, c.start-from.ensures, c.start-end.ensures, c.loop-i.auto.buffer, c.requires)
 

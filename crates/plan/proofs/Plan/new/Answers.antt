@@ -6,13 +6,13 @@ pub returns-then-starts-n-gt-MOST-TOTAL : goal.returns-then-starts-n-gt-MOST-TOT
 returns-then-starts-n-gt-MOST-TOTAL g c =
     let shape = c.in-Some.ensures in
     let end = end_is g.F.Field.arithmetic c.args.carriers c.args.codes.now c.in-Some.n shape.1 c.starts_of-starts.result c.starts_of-starts.ensures in
-    (shape.0, c.in-default-first-bad-modulus.ensures, omega (arith, c.if-starts-n-gt-MOST-TOTAL.true))
+    (shape.0, c.in-default-first_bad_modulus.ensures, omega (arith, c.if-starts-n-gt-MOST-TOTAL.true))
 
-pub returns-in-Some-first-clash : goal.returns-in-Some-first-clash
-returns-in-Some-first-clash g c =
+pub returns-in-Some-first_clash : goal.returns-in-Some-first_clash
+returns-in-Some-first_clash g c =
     let shape = c.in-Some.ensures in
     let end = end_is g.F.Field.arithmetic c.args.carriers c.args.codes.now c.in-Some.n shape.1 c.starts_of-starts.result c.starts_of-starts.ensures in
-    (shape.0, c.in-default-first-bad-modulus.ensures, omega (arith, c.if-starts-n-gt-MOST-TOTAL.false), c.in-Some-first-clash.ensures)
+    (shape.0, c.in-default-first_bad_modulus.ensures, omega (arith, c.if-starts-n-gt-MOST-TOTAL.false), c.in-Some-first_clash.ensures)
 
 pub invariant-of-record : goal.invariant-of-record
 invariant-of-record g c =
@@ -33,7 +33,7 @@ invariant-of-record g c =
             (
               starts_kept f k codes n shape.1 c.table_of.result c.table_of.ensures c.starts_of-starts.result c.starts_of-starts.ensures,
               (
-                monic_kept f k codes n shape.1 c.table_of.result c.table_of.ensures c.in-default-first-bad-modulus.ensures,
+                monic_kept f k codes n shape.1 c.table_of.result c.table_of.ensures c.in-default-first_bad_modulus.ensures,
                 (omega (arith, c.if-starts-n-gt-MOST-TOTAL.false), tt),
               ),
             ),
@@ -50,7 +50,7 @@ returns g c =
     let codes = c.args.codes.now in
     let n = c.in-Some.n in
     let end = end_is f k codes n shape.1 c.starts_of-starts.result c.starts_of-starts.ensures in (
-      accepted f k codes n shape.1 shape.0 c.in-default-first-bad-modulus.ensures (omega (arith, c.if-starts-n-gt-MOST-TOTAL.false))
-          c.in-default-first-clash.ensures,
+      accepted f k codes n shape.1 shape.0 c.in-default-first_bad_modulus.ensures (omega (arith, c.if-starts-n-gt-MOST-TOTAL.false))
+          c.in-default-first_clash.ensures,
       scheme_kept f k codes n shape.1 c.table_of.result c.table_of.ensures,
     )

@@ -10,13 +10,13 @@ loop-i-init g c = λ j h. absurd (omega arith)
 pub modulus_at-requires : goal.modulus_at-requires
 modulus_at-requires g c = group_within c.args.n c.loop-i.i c.args.codes.now c.requires c.loop-i-test.true
 
-pub returns-then-not-is-modulus : goal.returns-then-not-is-modulus
-returns-then-not-is-modulus g c =
+pub returns-then-not-is_modulus : goal.returns-then-not-is_modulus
+returns-then-not-is_modulus g c =
     let f = g.F.Field.arithmetic in
     let here = c.modulus_at.ensures.value ∙ sym (handed_modulus f c.args.carriers c.args.codes.now c.loop-i.i (omega (arith, c.requires))) in
     record {
       place = omega (arith, c.requires, handed_positions f c.args.carriers c.args.codes.now);
-      bad = λ is. absurd (false≢true (c.if-not-is-modulus.ensures.1 (subst (λ (m : List ℕ). IsModulus f m) (sym here) is)));
+      bad = λ is. absurd (false≢true (c.if-not-is_modulus.ensures.1 (subst (λ (m : List ℕ). IsModulus f m) (sym here) is)));
       before = c.loop-i.invariant;
     }
 
@@ -24,7 +24,7 @@ pub loop-i-preserved : goal.loop-i-preserved
 loop-i-preserved g c =
     let f = g.F.Field.arithmetic in
     let here = c.modulus_at.ensures.value ∙ sym (handed_modulus f c.args.carriers c.args.codes.now c.loop-i.i (omega (arith, c.requires))) in
-    below_more _ _ c.loop-i.invariant (subst (λ (m : List ℕ). IsModulus f m) here (c.if-not-is-modulus.ensures.0 refl))
+    below_more _ _ c.loop-i.invariant (subst (λ (m : List ℕ). IsModulus f m) here (c.if-not-is_modulus.ensures.0 refl))
 
 pub returns : goal.returns
 returns g c = λ i h.

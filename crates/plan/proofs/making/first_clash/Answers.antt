@@ -24,10 +24,10 @@ coprime-requires g c =
     group_lawful f c.args.carriers codes c.args.n c.requires.whole c.requires.moduli c.loop-j.j c.modulus_at-in-loop-j.result.now
     c.loop-j-test.true c.modulus_at-in-loop-j.ensures.value in
     record {
-      m-fits = omega (arith, c.modulus_at.ensures.long);
-      n-fits = omega (arith, c.modulus_at-in-loop-j.ensures.long);
-      m-codes = left.codes;
-      n-codes = right.codes;
+      m_fits = omega (arith, c.modulus_at.ensures.long);
+      n_fits = omega (arith, c.modulus_at-in-loop-j.ensures.long);
+      m_codes = left.codes;
+      n_codes = right.codes;
     }
 
 pub loop-j-preserved : goal.loop-j-preserved

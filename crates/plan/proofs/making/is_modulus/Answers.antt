@@ -2,11 +2,11 @@ use Rattle.std.proofs.Common.{sym, ◌∙◌, arith}
 use Rattle.plan.proofs.Moduli.{codes_or_none, codes_all, no_modulus, constant_is_none, monic_decides}
 use Rattle.plan.proofs.making.is_modulus.Goals as goal
 
-pub returns-then-is-some : goal.returns-then-is-some
-returns-then-is-some g c =
+pub returns-then-is_some : goal.returns-then-is_some
+returns-then-is_some g c =
     let f = g.F.Field.arithmetic in
     let m = c.args.m.now in
-    no_modulus f m (codes_or_none f m c.first_no_code.result c.first_no_code.ensures (sym c.if-is-some.ensures))
+    no_modulus f m (codes_or_none f m c.first_no_code.result c.first_no_code.ensures (sym c.if-is_some.ensures))
 
 pub returns-then-d-lt-LEAST-DEGREE : goal.returns-then-d-lt-LEAST-DEGREE
 returns-then-d-lt-LEAST-DEGREE g c =
@@ -19,4 +19,4 @@ returns g c =
     let f = g.F.Field.arithmetic in
     let m = c.args.m.now in
     monic_decides f m c.degree_or_zero-d.result c.degree_or_zero-d.ensures.value c.if-d-lt-LEAST-DEGREE.false
-    (codes_all f m c.first_no_code.result c.first_no_code.ensures (sym c.if-is-some.ensures))
+    (codes_all f m c.first_no_code.result c.first_no_code.ensures (sym c.if-is_some.ensures))

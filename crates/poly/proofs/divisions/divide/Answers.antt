@@ -11,12 +11,12 @@ divide_long-requires g c =
     let n = c.significant-count.result in
     let zeros : c.fill.new.self ≡ replicate (length c.args.quotient.now) 0 = search rules in
     record {
-      remainder-fits = omega arith;
-      divisor-least = front_least m n c.significant-count.ensures.within c.if-count-gt0.true;
+      remainder_fits = omega arith;
+      divisor_least = front_least m n c.significant-count.ensures.within c.if-count-gt0.true;
       leading = front_leads m n c.significant-count.ensures.within c.if-count-gt0.true c.significant-count.ensures.is;
       empty = zeros_below c.fill.new.self (length c.args.quotient.now) zeros;
       remainder_codes = c.requires.remainder_codes;
-      divisor-codes = front_codes f m n c.significant-count.ensures.within c.significant-count.ensures.is c.requires.divisor_codes;
+      divisor_codes = front_codes f m n c.significant-count.ensures.within c.significant-count.ensures.is c.requires.divisor_codes;
     }
 
 pub returns : goal.returns
@@ -34,7 +34,7 @@ returns g c =
     elim c.if-count-gt0.branch [
       | then-count-gt0 w ↦
           subst (λ (t : List ℕ × List ℕ). Left f (coefficients a) (coefficients m) t.0 t.1) (sym (pair w.quotient-is w.remainder-is))
-          (left_by_front f (coefficients a) m w.divide-long.new.quotient w.divide-long.new.remainder n s.within w.if-count-gt0.true s.is w.divide-long.ensures)
+          (left_by_front f (coefficients a) m w.divide_long.new.quotient w.divide_long.new.remainder n s.within w.if-count-gt0.true s.is w.divide_long.ensures)
       | else-count-gt0 w ↦
           subst (λ (t : List ℕ × List ℕ). Left f (coefficients a) (coefficients m) t.0 t.1) (sym (pair w.quotient-is w.remainder-is))
           (left_by_zero f L m c.fill.new.self a n w.if-count-gt0.false s.is
@@ -42,9 +42,9 @@ returns g c =
     ] in
     record {
       divided = left.0;
-      quotient_degree = kept_degree (coefficients q) c.degree.result c.degree.type-inv c.degree.ensures;
-      remainder-degree = kept_degree (coefficients r) c.degree-2.result c.degree-2.type-inv c.degree-2.ensures;
-      quotient-codes = left.1;
+      quotient_degree = kept_degree (coefficients q) c.degree.result c.degree.type_inv c.degree.ensures;
+      remainder_degree = kept_degree (coefficients r) c.degree-2.result c.degree-2.type_inv c.degree-2.ensures;
+      quotient_codes = left.1;
       remainder_codes = left.2;
     }
   where

@@ -47,6 +47,6 @@ returns g c =
       greatest =
           subst (λ (x : List ℕ). IsGcd f m n (coefficients x)) (sym same)
           (searching_ends f L m n previous c.loop-count.current c.loop-count.quotient c.loop-count.count c.loop-count.invariant c.loop-count-test.false);
-      has_degree = kept_degree (coefficients d) c.degree.result c.degree.type-inv c.degree.ensures;
+      has_degree = kept_degree (coefficients d) c.degree.result c.degree.type_inv c.degree.ensures;
       codes = subst (λ (x : List ℕ). Codes f x) (sym same) c.loop-count.invariant.previous_codes;
     }

@@ -23,8 +23,8 @@ add_scaled-requires g c =
     let b = c.args.b.now in
     record {
       fits = omega arith;
-      factor-code = c.requires.a_codes c.loop-shift.shift;
-      p-codes =
+      factor_code = c.requires.a_codes c.loop-shift.shift;
+      p_codes =
           product_codes f L (coefficients a) (coefficients b) (list_polynomial f L a c.requires.a_codes) (list_polynomial f L b c.requires.b_codes)
           c.loop-shift.shift c.loop-shift.product c.loop-shift.invariant;
       r_codes = c.requires.b_codes;

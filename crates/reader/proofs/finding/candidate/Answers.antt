@@ -44,7 +44,7 @@ returns g c =
     let quotient_long : length quotient ≡ 65 = search rules in
     let short : K ≤ 64 = omega (arith, c.requires.state.fits, c.requires.enough) in
     let low : Below K (coefficients quotient) =
-    below_more c.significant-codes.result K (coefficients quotient) (omega (arith, c.if-codes-message-length.false)) c.significant-codes.ensures.is.above in
+    below_more c.significant-codes.result K (coefficients quotient) (omega (arith, c.if-codes-message_length.false)) c.significant-codes.ensures.is.above in
     let table : Below 64 (coefficients quotient) = below_more K 64 (coefficients quotient) short low in
     let none : Below 0 rest = below_more c.significant-rest.result 0 rest c.if-rest-gt0.false c.significant-rest.ensures.is.above in
     let whole = front_same quotient 64 table (omega arith) in

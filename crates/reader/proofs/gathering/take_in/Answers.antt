@@ -41,7 +41,7 @@ join-requires g c =
     let table : length residues ≡ 64 = search rules in
     let ys-long : length ys ≡ degree s i = ap length ys-is ∙ part_long s residues i c.requires.place (omega (arith, r.short)) in
     let keep : kept s residues marks i ≡ true =
-    kept_told s L residues marks i ys ms c.is_kept.result true ys-is ms-is c.is_kept.ensures c.if-is-kept.true in
+    kept_told s L residues marks i ys ms c.is_kept.result true ys-is ms-is c.is_kept.ensures c.if-is_kept.true in
     let parts = kept_parts s L residues marks i keep in
     let ends = record_ends f r i c.requires.place in
     record {
@@ -54,8 +54,8 @@ join-requires g c =
           omega (arith, gathered_most s L residues marks i c.args.joined.now (omega (arith, c.requires.place)) c.requires.so_far);
     }
 
-pub returns-then-is-kept : goal.returns-then-is-kept
-returns-then-is-kept g c =
+pub returns-then-is_kept : goal.returns-then-is_kept
+returns-then-is_kept g c =
     let f = g.F.Field.arithmetic in
     let L = g.met.F.Field.lawful in
     let r = c.args.plan.now.record in
@@ -70,20 +70,20 @@ returns-then-is-kept g c =
     let table : length residues ≡ 64 = search rules in
     let ys-long : length ys ≡ degree s i = ap length ys-is ∙ part_long s residues i c.requires.place (omega (arith, r.short)) in
     let keep : kept s residues marks i ≡ true =
-    kept_told s L residues marks i ys ms c.is_kept.result true ys-is ms-is c.is_kept.ensures c.if-is-kept.true in
+    kept_told s L residues marks i ys ms c.is_kept.result true ys-is ms-is c.is_kept.ensures c.if-is_kept.true in
     let front : coefficients (take (length ys + 1 - 0) ms) ≡ coefficients (modulus s i) =
     ap (λ (m : List ℕ). coefficients (take (length ys + 1 - 0) m)) ms-is
     ∙ trimmed (modulus s i) (length ys + 1 - 0) (omega arith) in
     gathered_joined s L residues marks i c.requires.place keep c.args.joined.now c.join.new.self (take (length ys + 1 - 0) ms) ys c.requires.so_far
     c.join.ensures front ys-is ys-long
 
-pub returns-else-is-kept : goal.returns-else-is-kept
-returns-else-is-kept g c =
+pub returns-else-is_kept : goal.returns-else-is_kept
+returns-else-is_kept g c =
     let L = g.met.F.Field.lawful in
     let s = scheme g.F.Field.arithmetic c.args.plan.now.record in
     let residues = c.args.residues.now in
     let marks = c.args.marks.now in
     gathered_left s L residues marks c.args.i c.args.joined.now
     (kept_told s L residues marks c.args.i c.part_at-residue.result.now c.modulus-modulus.result.now c.is_kept.result false
-    c.part_at-residue.ensures c.modulus-modulus.ensures.value c.is_kept.ensures c.if-is-kept.false)
+    c.part_at-residue.ensures c.modulus-modulus.ensures.value c.is_kept.ensures c.if-is_kept.false)
     c.requires.so_far

@@ -42,8 +42,8 @@ add_scaled-requires g c =
     let long : length c.loop-count.euclid.t_previous ≡ 65 = search rules in
     record {
       fits = omega arith;
-      factor-code = rw c.inverse-factor.ensures (L.inverse_below (coefficients c.loop-count.euclid.previous 0));
-      p-codes = zeros_codes f L 65;
+      factor_code = rw c.inverse-factor.ensures (L.inverse_below (coefficients c.loop-count.euclid.previous 0));
+      p_codes = zeros_codes f L 65;
       r_codes = c.loop-count.invariant.reached.t_previous_polynomial.codes;
     }
 

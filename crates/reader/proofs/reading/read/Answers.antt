@@ -16,10 +16,10 @@ use Rattle.reader.proofs.reading.read.Goals.{After-margin-of-margin}
 pub overflow-sub-redundancy : goal.overflow-sub-redundancy
 overflow-sub-redundancy g c =
     let r = c.args.plan.now.record in
-    omega (arith, start_most (scheme g.F.Field.arithmetic r) r.carriers, c.word_length.ensures, c.message_length-message-length.ensures)
+    omega (arith, start_most (scheme g.F.Field.arithmetic r) r.carriers, c.word_length.ensures, c.message_length-message_length.ensures)
 
-pub returns-then-joined-message-length : goal.returns-then-joined-message-length
-returns-then-joined-message-length g c =
+pub returns-then-joined-message_length : goal.returns-then-joined-message_length
+returns-then-joined-message_length g c =
     let f = g.F.Field.arithmetic in
     let r = c.args.plan.now.record in
     let s = scheme f r in
@@ -29,9 +29,9 @@ returns-then-joined-message-length g c =
     record {
       answer =
           λ h. (
-            omega (arith, c.word_length.ensures, c.message_length-message-length.ensures, c.missing_degrees-missing.ensures residues, c.if-missing-redundancy.false),
+            omega (arith, c.word_length.ensures, c.message_length-message_length.ensures, c.missing_degrees-missing.ensures residues, c.if-missing-redundancy.false),
             none_by_degree s g.met.F.Field.lawful h residues marks (omega (arith, r.short)) c.gather-joined.result c.gather-joined.ensures
-                (omega (arith, c.message_length-message-length.ensures, c.if-joined-message-length.true)),
+                (omega (arith, c.message_length-message_length.ensures, c.if-joined-message_length.true)),
           );
       padded = tt;
     }
@@ -46,12 +46,12 @@ returns-in-default g c =
     let j = c.gather-joined.result in
     let long : length residues ≡ 64 = search rules in
     let searched =
-    subst (λ (k : ℕ). Searched f j.degree k (coefficients j.product) (coefficients j.value) None) c.message_length-message-length.ensures
+    subst (λ (k : ℕ). Searched f j.degree k (coefficients j.product) (coefficients j.value) None) c.message_length-message_length.ensures
     c.in-default.ensures in
     record {
       answer =
           λ h. (
-            omega (arith, c.word_length.ensures, c.message_length-message-length.ensures, c.missing_degrees-missing.ensures residues, c.if-missing-redundancy.false),
+            omega (arith, c.word_length.ensures, c.message_length-message_length.ensures, c.missing_degrees-missing.ensures residues, c.if-missing-redundancy.false),
             none_by_search s g.met.F.Field.lawful h residues marks (omega (arith, r.short)) j c.gather-joined.ensures searched,
           );
       padded = tt;
@@ -97,7 +97,7 @@ found g c =
       c.margin_of-margin.ensures,
       start_most s r.carriers,
       c.word_length.ensures,
-      c.message_length-message-length.ensures,
+      c.message_length-message_length.ensures,
       c.missing_degrees-missing.ensures residues,
       c.wrong_degrees-wrong.ensures,
     ) in (
@@ -105,7 +105,7 @@ found g c =
       omega (arith, r.short),
       omega (arith, start_most s r.carriers, r.short),
       subst (λ (k : ℕ). Searched f j.degree k (coefficients j.product) (coefficients j.value) (Some message))
-          c.message_length-message-length.ensures c.in-Some.ensures,
+          c.message_length-message_length.ensures c.in-Some.ensures,
     )
 
 pub returns-then-margin-lt0 : goal.returns-then-margin-lt0
@@ -116,7 +116,7 @@ returns-then-margin-lt0 g c =
     record {
       answer =
           λ h. (
-            omega (arith, c.word_length.ensures, c.message_length-message-length.ensures, c.missing_degrees-missing.ensures residues, c.if-missing-redundancy.false),
+            omega (arith, c.word_length.ensures, c.message_length-message_length.ensures, c.missing_degrees-missing.ensures residues, c.if-missing-redundancy.false),
             none_by_margin s g.met.F.Field.lawful h residues c.args.marks.now facts.1 c.gather-joined.result c.gather-joined.ensures
                 c.in-Some.message facts.2 facts.3 (omega (arith, ints, facts.0, c.if-margin-lt0.true)),
           );

@@ -30,7 +30,7 @@ loop-i-preserved g c residues =
     let i = c.loop-i.i in
     let more = over_more (λ j. lost s j (received s residues marks j)) i in
     let before = c.loop-i.invariant residues in
-    elim c.if-is-missing.branch [
+    elim c.if-is_missing.branch [
       | then-is-missing w ↦
           omega (arith, w.missing-is, w.degree-missing.ensures, lost_missing s residues marks i c.is_missing.result c.is_missing.ensures w.if-is-missing.true)
       | else-is-missing w ↦ omega (arith, w.missing-is, lost_present s residues marks i c.is_missing.result c.is_missing.ensures w.if-is-missing.false)

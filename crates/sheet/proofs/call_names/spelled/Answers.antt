@@ -4,7 +4,7 @@ use Rattle.sheet.proofs.call_names.spelled.Goals as goal
 
 pub loop-letter-preserved : goal.loop-letter-preserved
 loop-letter-preserved c =
-    let (within, same) = c.if-not-stands-at.ensures.0 refl in
+    let (within, same) = c.if-not-stands_at.ensures.0 refl in
     (omega arith, omega arith, spelt_more _ _ _ _ _ (omega arith) within c.loop-letter-test.true c.loop-letter.invariant.2 same)
 
 pub returns : goal.returns

@@ -11,7 +11,7 @@ loop-items-init c =
 
 pub returns-in-err-code : goal.returns-in-err-code
 returns-in-err-code c =
-    let (within, blank) = c.if-stands-at.ensures.0 refl in
+    let (within, blank) = c.if-stands_at.ensures.0 refl in
     let p = err_from_is_err_and c.from-residual.result c.from-residual.ensures.1 in
     rw (p.1, p.2) (code_lost _ _ _ _ _ _ c.loop-items.invariant.2 (omega (arith, c.loop-items.items.ok, c.len.ensures)) within blank c.in-err-code.ensures)
 

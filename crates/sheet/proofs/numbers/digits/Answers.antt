@@ -4,5 +4,5 @@ use Rattle.sheet.proofs.numbers.digits.Goals as goal
 
 pub returns : goal.returns
 returns c =
-    let (within, blank) = c.if-not-stands-at.ensures.0 refl in
+    let (within, blank) = c.if-not-stands_at.ensures.0 refl in
     number_text _ _ _ within blank c.digits_end-end.ensures c.if-end-place.false

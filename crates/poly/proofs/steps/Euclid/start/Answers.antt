@@ -11,8 +11,8 @@ returns c =
     record {
       previous = c.load.ensures;
       current = c.load-2.ensures;
-      t-previous = zeros_nought capacity;
-      t-current = unit_is (capacity - 1);
+      t_previous = zeros_nought capacity;
+      t_current = unit_is (capacity - 1);
       extended =
           λ f L hm hy D h k.
           rw (c.load.ensures, c.load-2.ensures, zeros_nought capacity, unit_is (capacity - 1))

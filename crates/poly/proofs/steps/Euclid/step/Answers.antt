@@ -13,10 +13,10 @@ subtract_product-requires g c =
     let L = g.met.F.Field.lawful in
     let e = c.args.self.now in
     let q = c.divide.new.quotient in
-    let nq = c.significant-quotient-count.result in
-    let nt = c.significant-factor-count.result in
-    let sq = c.significant-quotient-count.ensures in
-    let st = c.significant-factor-count.ensures in
+    let nq = c.significant-quotient_count.result in
+    let nt = c.significant-factor_count.result in
+    let sq = c.significant-quotient_count.ensures in
+    let st = c.significant-factor_count.ensures in
     let long : length e.t_previous ≡ capacity = search rules in
     let wide : length e.t_current ≡ capacity = search rules in
     let fit =
@@ -25,9 +25,9 @@ subtract_product-requires g c =
     record {
       fits =
           omega (arith, fit, long, length-take-le (nq - 0) q (omega (arith, sq.within)), length-take-le (nt - 0) e.t_current (omega (arith, st.within)));
-      p-codes = c.requires.holds.t_previous_polynomial.codes;
-      a-codes = front_codes f q nq sq.within sq.is c.divide.ensures.quotient_codes;
-      b-codes = front_codes f e.t_current nt st.within st.is c.requires.holds.t_polynomial.codes;
+      p_codes = c.requires.holds.t_previous_polynomial.codes;
+      a_codes = front_codes f q nq sq.within sq.is c.divide.ensures.quotient_codes;
+      b_codes = front_codes f e.t_current nt st.within st.is c.requires.holds.t_polynomial.codes;
     }
 
 pub returns : goal.returns
@@ -38,11 +38,11 @@ returns g c =
     let q = c.divide.new.quotient in
     let r = c.divide.new.remainder in
     let next = c.subtract_product.new.p in
-    let sq = c.significant-quotient-count.ensures in
-    let st = c.significant-factor-count.ensures in
+    let sq = c.significant-quotient_count.ensures in
+    let st = c.significant-factor_count.ensures in
     let t_is : coefficients next ≡ subtract f (coefficients e.t_previous) (multiply f (coefficients q) (coefficients e.t_current)) =
-    fronts_taken f (coefficients e.t_previous) (coefficients next) q e.t_current c.significant-quotient-count.result
-    c.significant-factor-count.result sq.within st.within sq.is st.is c.subtract_product.ensures.value in
+    fronts_taken f (coefficients e.t_previous) (coefficients next) q e.t_current c.significant-quotient_count.result
+    c.significant-factor_count.result sq.within st.within sq.is st.is c.subtract_product.ensures.value in
     record {
       stepped =
           record {

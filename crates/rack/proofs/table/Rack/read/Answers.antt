@@ -11,24 +11,24 @@ use Rattle.rack.proofs.Answering.{account_used, reading_found, reading_refused}
 use Rattle.rack.proofs.Judging.{later_passes, later_refuses, ok_settled, passes, use_refuses}
 use Rattle.rack.proofs.table.Rack.read.Goals as goal
 
-pub returns-in-err-may-use : goal.returns-in-err-may-use
-returns-in-err-may-use g c =
+pub returns-in-err-may_use : goal.returns-in-err-may_use
+returns-in-err-may_use g c =
     let r = state g.F.Field.arithmetic g.M.Memory.cells g.M.Memory.top c.args.self.now in
     let p = err_from_is_err_and c.from-residual.result c.from-residual.ensures.1 in
     rw (p.1, p.2)
-    (use_refuses r c.args.channel c.args.slot (reads c.args.channel c.args.slot c.args.buffer.now) _ refl _ c.in-err-may-use.ensures)
+    (use_refuses r c.args.channel c.args.slot (reads c.args.channel c.args.slot c.args.buffer.now) _ refl _ c.in-err-may_use.ensures)
 
-pub returns-in-err-check-length : goal.returns-in-err-check-length
-returns-in-err-check-length g c =
+pub returns-in-err-check_length : goal.returns-in-err-check_length
+returns-in-err-check_length g c =
     let r = state g.F.Field.arithmetic g.M.Memory.cells g.M.Memory.top c.args.self.now in
-    let p = err_from_is_err_and c.from-residual-in-err-check-length.result c.from-residual-in-err-check-length.ensures.1 in
+    let p = err_from_is_err_and c.from-residual-in-err-check_length.result c.from-residual-in-err-check_length.ensures.1 in
     let right = ap (λ n. settled (wrong_length c.args.slot n c.args.buffer.now)) c.message_length.ensures in
     rw (p.1, p.2)
     (later_refuses r c.args.channel c.args.slot (reads c.args.channel c.args.slot c.args.buffer.now) _ refl
-    c.in-ok-may-use.ensures _ (c.in-err-check-length.ensures ∙ right))
+    c.in-ok-may_use.ensures _ (c.in-err-check_length.ensures ∙ right))
 
-pub slice-bounds-copy-from-slice-end : goal.slice-bounds-copy-from-slice-end
-slice-bounds-copy-from-slice-end g c =
+pub slice-bounds-copy_from_slice-end : goal.slice-bounds-copy_from_slice-end
+slice-bounds-copy_from_slice-end g c =
     let held = c.args.self.now.plan.record in
     omega (arith, c.message_length-in-Ok.ensures, start_most (scheme g.F.Field.arithmetic held) held.carriers, held.short)
 
@@ -41,10 +41,10 @@ returns-in-Ok g c = λ rack.
     let count : c.message_length-in-Ok.result - 0 ≡ message_length r.scheme = omega (arith, c.message_length-in-Ok.ensures) in
     let filled = c.copy_from_slice.ensures.after ∙ ap (λ n. take n c.in-Ok.reading.message) count in
     passes r request _ _
-    (later_passes r c.args.channel c.args.slot request _ refl c.in-ok-may-use.ensures (c.in-ok-check-length.ensures ∙ right)) (
+    (later_passes r c.args.channel c.args.slot request _ refl c.in-ok-may_use.ensures (c.in-ok-check_length.ensures ∙ right)) (
       _,
       refl,
-      reading_found r.scheme _ _ (account_used r c.args.channel c.args.slot c.in-ok-may-use.ensures) c.args.slot c.args.buffer.now
+      reading_found r.scheme _ _ (account_used r c.args.channel c.args.slot c.in-ok-may_use.ensures) c.args.slot c.args.buffer.now
           c.in-Ok.reading _ _ (c.in-Ok.ensures rack) filled back refl,
     )
     _ refl rack
@@ -55,10 +55,10 @@ returns-in-Err g c = λ rack.
     let request = reads c.args.channel c.args.slot c.args.buffer.now in
     let right = ap (λ n. settled (wrong_length c.args.slot n c.args.buffer.now)) c.message_length.ensures in
     passes r request _ _
-    (later_passes r c.args.channel c.args.slot request _ refl c.in-ok-may-use.ensures (c.in-ok-check-length.ensures ∙ right)) (
+    (later_passes r c.args.channel c.args.slot request _ refl c.in-ok-may_use.ensures (c.in-ok-check_length.ensures ∙ right)) (
       _,
       refl,
-      reading_refused r.scheme _ _ (account_used r c.args.channel c.args.slot c.in-ok-may-use.ensures) c.args.slot c.args.buffer.now
+      reading_refused r.scheme _ _ (account_used r c.args.channel c.args.slot c.in-ok-may_use.ensures) c.args.slot c.args.buffer.now
           c.in-Err.cause (c.in-Err.ensures rack),
     )
     _ refl rack

@@ -19,18 +19,18 @@ inverse_modulo-inverse-requires g c =
     let whole : length c.remainder_of.result ≡ 65 = search rules in
     record {
       fits = omega (arith, pair.short);
-      p-fits = omega arith;
+      p_fits = omega arith;
       has_degree = subst (λ (n : ℕ). HasDegree n (coefficients m)) (sym same) (pair_degree f m y pair);
       lower = c.remainder_of.ensures.divided.division.remainder_below;
       modulus_codes = pair.codes;
-      p-codes = c.remainder_of.ensures.codes;
+      p_codes = c.remainder_of.ensures.codes;
     }
 
 pub add_to-requires : goal.add_to-requires
 add_to-requires g c =
     record {
       fits = omega (arith, c.requires.pair.short, c.requires.pair.long);
-      p-codes = zeros_codes g.F.Field.arithmetic g.met.F.Field.lawful 65;
+      p_codes = zeros_codes g.F.Field.arithmetic g.met.F.Field.lawful 65;
       r_codes = c.requires.pair.residue_codes;
     }
 
@@ -49,10 +49,10 @@ multiply-requires g c =
     record {
       fits =
           omega (arith, length-take-le (length y - 0) gap (omega arith), length-take-le (length y - 0) inverse (omega arith), pair.short, pair.long);
-      a-codes =
+      a_codes =
           front_codes f gap (length y) (subst (λ (n : ℕ). Below n (coefficients gap)) same c.remainder_of-gap.ensures.divided.division.remainder_below) (omega arith)
           c.remainder_of-gap.ensures.codes;
-      b-codes =
+      b_codes =
           front_codes f inverse (length y) (subst (λ (n : ℕ). Below n (coefficients inverse)) same c.inverse_modulo-inverse.ensures.below) (omega arith)
           c.inverse_modulo-inverse.ensures.codes;
     }

@@ -19,8 +19,8 @@ multiply-requires g c =
     record {
       fits =
           omega (arith, length-take-le (j.degree + 1 - 0) j.product (omega (arith, c.requires.room)), length-take-le (length y - 0) factor (omega (arith, c.requires.room)), c.requires.room);
-      a-codes = front_codes f j.product (j.degree + 1) product_below (omega (arith, c.requires.room)) c.requires.state.product_codes;
-      b-codes = front_codes f factor (length y) c.correction-correction.ensures.below (omega (arith, c.requires.room)) c.correction-correction.ensures.codes;
+      a_codes = front_codes f j.product (j.degree + 1) product_below (omega (arith, c.requires.room)) c.requires.state.product_codes;
+      b_codes = front_codes f factor (length y) c.correction-correction.ensures.below (omega (arith, c.requires.room)) c.correction-correction.ensures.codes;
     }
 
 pub multiply-requires-2 : goal.multiply-requires-2
@@ -32,8 +32,8 @@ multiply-requires-2 g c =
     below_more (suc j.degree) (j.degree + 1) (coefficients j.product) (omega arith) c.requires.state.has_degree.above in
     record {
       fits = omega (arith, length-take-le (j.degree + 1 - 0) j.product (omega (arith, c.requires.room)), c.requires.pair.long, c.requires.room);
-      a-codes = front_codes f j.product (j.degree + 1) product_below (omega (arith, c.requires.room)) c.requires.state.product_codes;
-      b-codes = c.requires.pair.codes;
+      a_codes = front_codes f j.product (j.degree + 1) product_below (omega (arith, c.requires.room)) c.requires.state.product_codes;
+      b_codes = c.requires.pair.codes;
     }
 
 pub returns : goal.returns
