@@ -4,7 +4,7 @@ use Rattle.std.proofs.lemmas.Result.{err_from_is_err_and}
 use Rattle.expression.specs.Fields.{arithmetic_of}
 use Rattle.expression.proofs.Endings.{line_read, not_ended, sum_lost}
 use Rattle.expression.proofs.lines.modulus_line.Goals as goal
-use Rattle.expression.proofs.lines.modulus_line.Goals.{else-whole-sheet-via-else-whole-sheet, else-whole-sheet-via-then-whole-sheet+else-sheet-whole-eq-LINE-END}
+use Rattle.expression.proofs.lines.modulus_line.Goals.{else-whole-sheet-via-else-whole-sheet, else-whole-sheet-via-then-whole-sheet+else-sheet-whole-eq-LINE_END}
 
 pub returns-in-err-whole : goal.returns-in-err-whole
 returns-in-err-whole c =
@@ -14,12 +14,12 @@ returns-in-err-whole c =
       past = λ h. absurd (omega arith);
     }
 
-pub returns-then-sheet-whole-eq-LINE-END : goal.returns-then-sheet-whole-eq-LINE-END
-returns-then-sheet-whole-eq-LINE-END c =
+pub returns-then-sheet-whole-eq-LINE_END : goal.returns-then-sheet-whole-eq-LINE_END
+returns-then-sheet-whole-eq-LINE_END c =
     record {
       within = λ h.
           line_read (arithmetic_of c.args.field) _ _ _ c.in-ok-whole.ensures c.if-whole-sheet.true
-          c.if-sheet-whole-eq-LINE-END.true;
+          c.if-sheet-whole-eq-LINE_END.true;
       past = λ h. absurd (omega arith);
     }
 
@@ -29,7 +29,7 @@ returns-else-whole-sheet c =
       within = λ h.
           not_ended (arithmetic_of c.args.field) _ _ _ c.in-ok-whole.ensures
           (elim c.else-whole-sheet.branch [
-            | else-whole-sheet-via-then-whole-sheet+else-sheet-whole-eq-LINE-END w ↦ λ k e. w.if-sheet-whole-eq-LINE-END.false e
+            | else-whole-sheet-via-then-whole-sheet+else-sheet-whole-eq-LINE_END w ↦ λ k e. w.if-sheet-whole-eq-LINE_END.false e
             | else-whole-sheet-via-else-whole-sheet w ↦ λ k e. absurd (omega (arith, w.if-whole-sheet.false, k))
           ]);
       past = λ h. absurd (omega arith);

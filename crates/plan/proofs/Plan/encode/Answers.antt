@@ -9,7 +9,7 @@ pub returns : goal.returns
 returns g c =
     let s = scheme g.F.Field.arithmetic c.args.self.now.record in
     let message = c.args.message.now in
-    let is : IsMessage s message = record { long = omega (arith, c.if-message-message_length.false, c.message_length.ensures); codes = c.in-default.ensures } in
+    let is : IsMessage s message = record { long = omega (arith, c.if-message-message_length.false, c.message_length.ensures); codes = c.in_default.ensures } in
     record {
       answer = (is, omega (arith, c.if-buffer-word_length.false, c.word_length.ensures), c.fill.ensures);
       remainders = λ _ lawful.

@@ -10,23 +10,23 @@ use Rattle.plan.proofs.Plan.fill.Goals as goal
 pub loop-i-init : goal.loop-i-init
 loop-i-init g c = refl
 
-pub offset-bounds-buffer-from : goal.offset-bounds-buffer-from
-offset-bounds-buffer-from g c =
+pub offset_bounds-buffer-from : goal.offset_bounds-buffer-from
+offset_bounds-buffer-from g c =
     let ends = record_ends g.F.Field.arithmetic c.args.self.now.record c.loop-i.i (omega (arith, c.loop-i-test.true, c.positions-i-end.ensures)) in
     omega (arith, c.start-from.ensures)
 
-pub slice-bounds-fill_position-count : goal.slice-bounds-fill_position-count
-slice-bounds-fill_position-count g c =
+pub slice_bounds-fill_position-count : goal.slice_bounds-fill_position-count
+slice_bounds-fill_position-count g c =
     let ends = record_ends g.F.Field.arithmetic c.args.self.now.record c.loop-i.i (omega (arith, c.loop-i-test.true, c.positions-i-end.ensures)) in
     omega (arith, c.start-from.ensures, c.start-end.ensures)
 
-pub slice-bounds-fill_position-start : goal.slice-bounds-fill_position-start
-slice-bounds-fill_position-start g c =
+pub slice_bounds-fill_position-start : goal.slice_bounds-fill_position-start
+slice_bounds-fill_position-start g c =
     let ends = record_ends g.F.Field.arithmetic c.args.self.now.record c.loop-i.i (omega (arith, c.loop-i-test.true, c.positions-i-end.ensures)) in
     omega (arith, c.start-from.ensures, c.start-end.ensures)
 
-pub slice-bounds-fill_position-end : goal.slice-bounds-fill_position-end
-slice-bounds-fill_position-end g c =
+pub slice_bounds-fill_position-end : goal.slice_bounds-fill_position-end
+slice_bounds-fill_position-end g c =
     let ends = record_ends g.F.Field.arithmetic c.args.self.now.record c.loop-i.i (omega (arith, c.loop-i-test.true, c.positions-i-end.ensures)) in
     omega (arith, c.start-from.ensures, c.start-end.ensures, c.loop-i.auto.buffer, c.requires)
 

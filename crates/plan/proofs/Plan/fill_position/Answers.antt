@@ -7,8 +7,8 @@ use Rattle.plan.proofs.Sizes.{extent_length}
 use Rattle.plan.proofs.Trimmed.{trimmed}
 use Rattle.plan.proofs.Plan.fill_position.Goals as goal
 
-pub slice-bounds-reduce-end : goal.slice-bounds-reduce-end
-slice-bounds-reduce-end g c =
+pub slice_bounds-reduce-end : goal.slice_bounds-reduce-end
+slice_bounds-reduce-end g c =
     let s = scheme g.F.Field.arithmetic c.args.self.now.record in
     let long = c.modulus-modulus.ensures.long c.requires.place in
     omega (arith, ap length c.modulus-modulus.ensures.value, extent_length (modulus s c.args.i), c.requires.long)

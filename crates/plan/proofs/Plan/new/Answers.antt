@@ -2,20 +2,20 @@ use Rattle.std.proofs.Common.{◌≡◌, ℕ, ◌<◌, ◌≤◌, List, sym, ◌
 use Rattle.plan.proofs.Made.{accepted, end_is, monic_kept, scheme_kept, starts_kept, total_kept}
 use Rattle.plan.proofs.Plan.new.Goals as goal
 
-pub returns-then-starts-n-gt-MOST-TOTAL : goal.returns-then-starts-n-gt-MOST-TOTAL
-returns-then-starts-n-gt-MOST-TOTAL g c =
+pub returns-then-starts-n-gt-MOST_TOTAL : goal.returns-then-starts-n-gt-MOST_TOTAL
+returns-then-starts-n-gt-MOST_TOTAL g c =
     let shape = c.in-Some.ensures in
     let end = end_is g.F.Field.arithmetic c.args.carriers c.args.codes.now c.in-Some.n shape.1 c.starts_of-starts.result c.starts_of-starts.ensures in
-    (shape.0, c.in-default-first_bad_modulus.ensures, omega (arith, c.if-starts-n-gt-MOST-TOTAL.true))
+    (shape.0, c.in_default-first_bad_modulus.ensures, omega (arith, c.if-starts-n-gt-MOST_TOTAL.true))
 
 pub returns-in-Some-first_clash : goal.returns-in-Some-first_clash
 returns-in-Some-first_clash g c =
     let shape = c.in-Some.ensures in
     let end = end_is g.F.Field.arithmetic c.args.carriers c.args.codes.now c.in-Some.n shape.1 c.starts_of-starts.result c.starts_of-starts.ensures in
-    (shape.0, c.in-default-first_bad_modulus.ensures, omega (arith, c.if-starts-n-gt-MOST-TOTAL.false), c.in-Some-first_clash.ensures)
+    (shape.0, c.in_default-first_bad_modulus.ensures, omega (arith, c.if-starts-n-gt-MOST_TOTAL.false), c.in-Some-first_clash.ensures)
 
-pub invariant-of-record : goal.invariant-of-record
-invariant-of-record g c =
+pub invariant_of-record : goal.invariant_of-record
+invariant_of-record g c =
     let shape = c.in-Some.ensures in
     let f = g.F.Field.arithmetic in
     let k = c.args.carriers in
@@ -33,8 +33,8 @@ invariant-of-record g c =
             (
               starts_kept f k codes n shape.1 c.table_of.result c.table_of.ensures c.starts_of-starts.result c.starts_of-starts.ensures,
               (
-                monic_kept f k codes n shape.1 c.table_of.result c.table_of.ensures c.in-default-first_bad_modulus.ensures,
-                (omega (arith, c.if-starts-n-gt-MOST-TOTAL.false), tt),
+                monic_kept f k codes n shape.1 c.table_of.result c.table_of.ensures c.in_default-first_bad_modulus.ensures,
+                (omega (arith, c.if-starts-n-gt-MOST_TOTAL.false), tt),
               ),
             ),
           ),
@@ -50,7 +50,7 @@ returns g c =
     let codes = c.args.codes.now in
     let n = c.in-Some.n in
     let end = end_is f k codes n shape.1 c.starts_of-starts.result c.starts_of-starts.ensures in (
-      accepted f k codes n shape.1 shape.0 c.in-default-first_bad_modulus.ensures (omega (arith, c.if-starts-n-gt-MOST-TOTAL.false))
-          c.in-default-first_clash.ensures,
+      accepted f k codes n shape.1 shape.0 c.in_default-first_bad_modulus.ensures (omega (arith, c.if-starts-n-gt-MOST_TOTAL.false))
+          c.in_default-first_clash.ensures,
       scheme_kept f k codes n shape.1 c.table_of.result c.table_of.ensures,
     )

@@ -7,8 +7,8 @@ use Rattle.plan.proofs.making.starts_of.Goals as goal
 pub modulus_at-requires : goal.modulus_at-requires
 modulus_at-requires c = group_within c.args.n c.loop-i.i c.args.codes.now c.requires.whole c.loop-i-test.true
 
-pub overflow-add-end : goal.overflow-add-end
-overflow-add-end c = omega (arith, c.loop-i.invariant.3, c.degree_or_zero-end.ensures.bound, c.requires.few)
+pub overflow_add-end : goal.overflow_add-end
+overflow_add-end c = omega (arith, c.loop-i.invariant.3, c.degree_or_zero-end.ensures.bound, c.requires.few)
 
 pub loop-i-init : goal.loop-i-init
 loop-i-init c = (

@@ -5,8 +5,8 @@ use Rattle.reader.proofs.Inverting.{fewer}
 use Rattle.reader.proofs.Searching.{halving_again, halving_starts, halving_stops}
 use Rattle.reader.proofs.finding.half_way.Goals as goal
 
-pub overflow-add-bound : goal.overflow-add-bound
-overflow-add-bound g c = omega (arith, c.requires.enough, c.requires.state.fits)
+pub overflow_add-bound : goal.overflow_add-bound
+overflow_add-bound g c = omega (arith, c.requires.enough, c.requires.state.fits)
 
 pub loop-count-init : goal.loop-count-init
 loop-count-init g c =
@@ -20,11 +20,11 @@ loop-count-init g c =
     (c.start-euclid.ensures.extended f L state.product_codes state.value_codes j.degree state.has_degree state.below)
     c.significant-count.ensures.is (omega (arith, c.significant-count.ensures.within))
 
-pub overflow-mul-count : goal.overflow-mul-count
-overflow-mul-count g c = omega (arith, c.loop-count.invariant.short)
+pub overflow_mul-count : goal.overflow_mul-count
+overflow_mul-count g c = omega (arith, c.loop-count.invariant.short)
 
-pub overflow-add-bound-in-loop-count : goal.overflow-add-bound-in-loop-count
-overflow-add-bound-in-loop-count g c = omega (arith, c.requires.enough, c.requires.state.fits)
+pub overflow_add-bound-in-loop-count : goal.overflow_add-bound-in-loop-count
+overflow_add-bound-in-loop-count g c = omega (arith, c.requires.enough, c.requires.state.fits)
 
 pub step-requires : goal.step-requires
 step-requires g c =

@@ -15,8 +15,8 @@ bounds-marks-i g c =
     let r = c.args.plan.now.record in
     omega (arith, record_positions g.F.Field.arithmetic r, r.few, c.requires.place)
 
-pub slice-bounds-join-end : goal.slice-bounds-join-end
-slice-bounds-join-end g c =
+pub slice_bounds-join-end : goal.slice_bounds-join-end
+slice_bounds-join-end g c =
     let s = scheme g.F.Field.arithmetic c.args.plan.now.record in
     let long = c.modulus-modulus.ensures.long c.requires.place in
     let residues = c.args.residues.now in

@@ -13,8 +13,8 @@ use Rattle.reader.proofs.reading.read.Given as given
 use Rattle.reader.proofs.reading.read.Goals as goal
 use Rattle.reader.proofs.reading.read.Goals.{After-margin-of-margin}
 
-pub overflow-sub-redundancy : goal.overflow-sub-redundancy
-overflow-sub-redundancy g c =
+pub overflow_sub-redundancy : goal.overflow_sub-redundancy
+overflow_sub-redundancy g c =
     let r = c.args.plan.now.record in
     omega (arith, start_most (scheme g.F.Field.arithmetic r) r.carriers, c.word_length.ensures, c.message_length-message_length.ensures)
 
@@ -36,8 +36,8 @@ returns-then-joined-message_length g c =
       padded = tt;
     }
 
-pub returns-in-default : goal.returns-in-default
-returns-in-default g c =
+pub returns-in_default : goal.returns-in_default
+returns-in_default g c =
     let f = g.F.Field.arithmetic in
     let r = c.args.plan.now.record in
     let s = scheme f r in
@@ -47,7 +47,7 @@ returns-in-default g c =
     let long : length residues ≡ 64 = search rules in
     let searched =
     subst (λ (k : ℕ). Searched f j.degree k (coefficients j.product) (coefficients j.value) None) c.message_length-message_length.ensures
-    c.in-default.ensures in
+    c.in_default.ensures in
     record {
       answer =
           λ h. (

@@ -5,16 +5,16 @@ use Rattle.plan.specs.Schemes.{degree}
 use Rattle.reader.proofs.Tallied.{degree_proper, degree_small, residue_told}
 use Rattle.reader.proofs.tally.is_residue.Goals as goal
 
-pub slice-bounds-buffer-end : goal.slice-bounds-buffer-end
-slice-bounds-buffer-end g c =
+pub slice_bounds-buffer-end : goal.slice_bounds-buffer-end
+slice_bounds-buffer-end g c =
     omega (arith, c.degree-degree.ensures, degree_small g.F.Field.arithmetic c.args.plan.now.record c.args.i c.requires)
 
-pub overflow-add-degree : goal.overflow-add-degree
-overflow-add-degree g c =
+pub overflow_add-degree : goal.overflow_add-degree
+overflow_add-degree g c =
     omega (arith, c.degree-degree.ensures, degree_small g.F.Field.arithmetic c.args.plan.now.record c.args.i c.requires)
 
-pub slice-bounds-reduce-end : goal.slice-bounds-reduce-end
-slice-bounds-reduce-end g c =
+pub slice_bounds-reduce-end : goal.slice_bounds-reduce-end
+slice_bounds-reduce-end g c =
     omega (arith, c.degree-degree.ensures, degree_small g.F.Field.arithmetic c.args.plan.now.record c.args.i c.requires, c.modulus-modulus.ensures.long c.requires)
 
 pub reduce-requires : goal.reduce-requires

@@ -7,8 +7,8 @@ use Rattle.reader.specs.Received.{received}
 use Rattle.reader.proofs.Tallied.{figures}
 use Rattle.reader.proofs.tally.measure.Goals as goal
 
-pub overflow-sub-redundancy : goal.overflow-sub-redundancy
-overflow-sub-redundancy g c =
+pub overflow_sub-redundancy : goal.overflow_sub-redundancy
+overflow_sub-redundancy g c =
     let r = c.args.plan.now.record in
     omega (arith, start_most (scheme g.F.Field.arithmetic r) r.carriers, c.word_length.ensures, c.message_length.ensures)
 

@@ -3,7 +3,7 @@ use Rattle.plan.specs.Held.{scheme}
 use Rattle.plan.proofs.Sizes.{start_most}
 use Rattle.reader.proofs.tally.message_in.Goals as goal
 
-pub slice-bounds-result-end : goal.slice-bounds-result-end
-slice-bounds-result-end g c =
+pub slice_bounds-result-end : goal.slice_bounds-result-end
+slice_bounds-result-end g c =
     let r = c.args.plan.now.record in
     omega (arith, start_most (scheme g.F.Field.arithmetic r) r.carriers, r.short)

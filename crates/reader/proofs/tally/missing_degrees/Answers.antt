@@ -13,8 +13,8 @@ pub is_missing-requires : goal.is_missing-requires
 is_missing-requires g c =
     omega (arith, c.loop-i-test.true, c.positions-i-end.ensures, few_positions g.F.Field.arithmetic c.args.plan.now.record)
 
-pub overflow-add-missing : goal.overflow-add-missing
-overflow-add-missing g c =
+pub overflow_add-missing : goal.overflow_add-missing
+overflow_add-missing g c =
     let r = c.args.plan.now.record in
     let s = scheme g.F.Field.arithmetic r in
     let marks = c.args.marks.now in

@@ -7,8 +7,8 @@ use Rattle.reader.specs.Received.{received}
 use Rattle.reader.proofs.Tallied.{charge_most, charges_more, within_word}
 use Rattle.reader.proofs.tally.wrong_degrees.Goals as goal
 
-pub overflow-add-wrong : goal.overflow-add-wrong
-overflow-add-wrong g c =
+pub overflow_add-wrong : goal.overflow_add-wrong
+overflow_add-wrong g c =
     let r = c.args.plan.now.record in
     let s = scheme g.F.Field.arithmetic r in
     let message = take (message_length s) c.args.message.now in

@@ -2,8 +2,8 @@ use Rattle.std.proofs.lemmas.Result.{err_from_is_err_and}
 use Rattle.sheet.proofs.CallWords.{name_lost, none_begins}
 use Rattle.sheet.proofs.call_names.call_name.Goals as goal
 
-pub returns-in-default : goal.returns-in-default
-returns-in-default c = none_begins _ _ c.requires c.in-default.ensures
+pub returns-in_default : goal.returns-in_default
+returns-in_default c = none_begins _ _ c.requires c.in_default.ensures
 
 pub returns-in-err-token : goal.returns-in-err-token
 returns-in-err-token c =

@@ -2,9 +2,9 @@ use Rattle.std.proofs.Common.{inl, inr, arith}
 use Rattle.sheet.proofs.Decimals.{first_lost, one_got, second_lost, third_lost, two_got}
 use Rattle.sheet.proofs.counts.count_line.Goals as goal
 
-pub returns-in-default : goal.returns-in-default
-returns-in-default c =
-    first_lost _ _ c.requires.low c.requires.some c.requires.few _ _ c.requires.within (λ l d h e _ _. c.in-default.ensures l d h e)
+pub returns-in_default : goal.returns-in_default
+returns-in_default c =
+    first_lost _ _ c.requires.low c.requires.some c.requires.few _ _ c.requires.within (λ l d h e _ _. c.in_default.ensures l d h e)
 
 pub returns-then-first-least : goal.returns-then-first-least
 returns-then-first-least c =
@@ -18,11 +18,11 @@ returns-then-ends_at c =
     let e = c.if-ends_at.ensures in
     one_got _ _ c.requires.low c.requires.some c.requires.few _ _ c.in-Some.first f.0 f.1 f.2 c.if-first-least.false c.if-first-most.false e.0 e.1
 
-pub returns-in-default-digit_at : goal.returns-in-default-digit_at
-returns-in-default-digit_at c =
+pub returns-in_default-digit_at : goal.returns-in_default-digit_at
+returns-in_default-digit_at c =
     let f = c.in-Some.ensures in
     second_lost _ _ c.requires.low c.requires.some c.requires.few _ _ c.in-Some.first f.0 f.1 f.2 c.if-first-least.false c.if-first-most.false
-    c.if-ends_at.ensures (λ l e h k _ _. c.in-default-digit_at.ensures l e h k)
+    c.if-ends_at.ensures (λ l e h k _ _. c.in_default-digit_at.ensures l e h k)
 
 pub returns-then-first-eq0 : goal.returns-then-first-eq0
 returns-then-first-eq0 c =

@@ -5,14 +5,14 @@ use Rattle.expression.specs.Bytes.{Digit}
 use Rattle.expression.specs.Grammar.{numeral}
 use Rattle.sheet.proofs.numbers.value.Goals as goal
 
-pub overflow-mul-number : goal.overflow-mul-number
-overflow-mul-number c = omega (arith, c.requires.few, c.loop-digit.invariant.4)
+pub overflow_mul-number : goal.overflow_mul-number
+overflow_mul-number c = omega (arith, c.requires.few, c.loop-digit.invariant.4)
 
-pub overflow-sub-number : goal.overflow-sub-number
-overflow-sub-number c = omega (arith, (All-get_or Digit _ _ 0 c.loop-digit-test.true c.requires.digits).0)
+pub overflow_sub-number : goal.overflow_sub-number
+overflow_sub-number c = omega (arith, (All-get_or Digit _ _ 0 c.loop-digit-test.true c.requires.digits).0)
 
-pub overflow-add-number : goal.overflow-add-number
-overflow-add-number c = omega (arith, c.requires.few, c.loop-digit.invariant.4)
+pub overflow_add-number : goal.overflow_add-number
+overflow_add-number c = omega (arith, c.requires.few, c.loop-digit.invariant.4)
 
 pub loop-digit-preserved : goal.loop-digit-preserved
 loop-digit-preserved c =

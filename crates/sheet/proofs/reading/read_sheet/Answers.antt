@@ -8,25 +8,25 @@ use Rattle.sheet.proofs.reading.read_sheet.Goals as goal
 pub returns-in-err-end : goal.returns-in-err-end
 returns-in-err-end c =
     let p = err_from_is_err_and c.from-residual.result c.from-residual.ensures.1 in
-    rw (p.1, p.2) (fault_told _ _ c.if-bytes-gt-LONGEST-SHEET.false c.in-err-end.ensures)
+    rw (p.1, p.2) (fault_told _ _ c.if-bytes-gt-LONGEST_SHEET.false c.in-err-end.ensures)
 
 pub returns-then-end-bytes : goal.returns-then-end-bytes
 returns-then-end-bytes c =
     let d = c.in-ok-end.ensures in
-    (c.if-bytes-gt-LONGEST-SHEET.false, stops_after _ _ (any_sheet _ _ d.content d.sheet) c.if-end-bytes.true)
+    (c.if-bytes-gt-LONGEST_SHEET.false, stops_after _ _ (any_sheet _ _ d.content d.sheet) c.if-end-bytes.true)
 
 pub returns-in-Some : goal.returns-in-Some
 returns-in-Some c =
     let d = c.in-ok-end.ensures in (
-      c.if-bytes-gt-LONGEST-SHEET.false,
+      c.if-bytes-gt-LONGEST_SHEET.false,
       (d.content, got_whole (λ x. IsSheet x d.content) _ _ d.sheet c.if-end-bytes.false, sym d.bad_is ∙ c.in-Some.is),
     )
 
 pub returns : goal.returns
 returns c =
     let d = c.in-ok-end.ensures in
-    let none = sym d.bad_is ∙ c.in-default.is in (
-      c.if-bytes-gt-LONGEST-SHEET.false,
+    let none = sym d.bad_is ∙ c.in_default.is in (
+      c.if-bytes-gt-LONGEST_SHEET.false,
       (
         d.content,
         got_whole (λ x. IsSheet x d.content) _ _ d.sheet c.if-end-bytes.false,

@@ -26,8 +26,8 @@ returns-in-err-check_residue g c =
     (later_refuses r c.args.channel c.args.slot (puts c.args.channel c.args.slot c.args.position c.args.residue.now) _ refl
     c.in-ok-may_use.ensures _ c.in-err-check_residue.ensures)
 
-pub overflow-add-at : goal.overflow-add-at
-overflow-add-at g c =
+pub overflow_add-at : goal.overflow_add-at
+overflow_add-at g c =
     let r = state g.F.Field.arithmetic g.M.Memory.cells g.M.Memory.top c.args.self.now in
     let inside = use_allowed r c.args.channel c.args.slot c.in-ok-may_use.ensures in
     let place = put_place r c.args.slot c.args.position c.args.residue.now (ok_settled _ c.in-ok-check_residue.ensures)

@@ -27,8 +27,8 @@ returns-in-err-check_length g c =
     (later_refuses r c.args.channel c.args.slot (reads c.args.channel c.args.slot c.args.buffer.now) _ refl
     c.in-ok-may_use.ensures _ (c.in-err-check_length.ensures ∙ right))
 
-pub slice-bounds-copy_from_slice-end : goal.slice-bounds-copy_from_slice-end
-slice-bounds-copy_from_slice-end g c =
+pub slice_bounds-copy_from_slice-end : goal.slice_bounds-copy_from_slice-end
+slice_bounds-copy_from_slice-end g c =
     let held = c.args.self.now.plan.record in
     omega (arith, c.message_length-in-Ok.ensures, start_most (scheme g.F.Field.arithmetic held) held.carriers, held.short)
 
