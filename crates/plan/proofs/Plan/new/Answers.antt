@@ -22,25 +22,16 @@ invariant_of-record g c =
     let codes = c.args.codes.now in
     let n = c.in-Some.n in
     let end = end_is f k codes n shape.1 c.starts_of-starts.result c.starts_of-starts.ensures in
-    let total = total_kept f k codes n shape.1 c.table_of.result c.table_of.ensures in (
-      omega (arith, shape.0.enough, shape.1),
-      (
-        omega (arith, shape.0.few, shape.1),
-        (
-          shape.0.carrying,
-          (
-            omega (arith, shape.0.spare, shape.1),
-            (
-              starts_kept f k codes n shape.1 c.table_of.result c.table_of.ensures c.starts_of-starts.result c.starts_of-starts.ensures,
-              (
-                monic_kept f k codes n shape.1 c.table_of.result c.table_of.ensures c.in_default-first_bad_modulus.ensures,
-                (omega (arith, c.if-starts-n-gt-MOST_TOTAL.false), tt),
-              ),
-            ),
-          ),
-        ),
-      ),
-    )
+    let total = total_kept f k codes n shape.1 c.table_of.result c.table_of.ensures in
+    record {
+      enough = omega (arith, shape.0.enough, shape.1);
+      few = omega (arith, shape.0.few, shape.1);
+      carrying = shape.0.carrying;
+      spare = omega (arith, shape.0.spare, shape.1);
+      starting = starts_kept f k codes n shape.1 c.table_of.result c.table_of.ensures c.starts_of-starts.result c.starts_of-starts.ensures;
+      monic = monic_kept f k codes n shape.1 c.table_of.result c.table_of.ensures c.in_default-first_bad_modulus.ensures;
+      short = omega (arith, c.if-starts-n-gt-MOST_TOTAL.false);
+    }
 
 pub returns : goal.returns
 returns g c =
