@@ -7,6 +7,17 @@ use Rattle.reader.proofs.Inverting.{fewer, scaled_below, scaled_inverts, scaled_
 use Rattle.reader.proofs.Tables.{zeros_codes}
 use Rattle.reader.proofs.joining.inverse_modulo.Goals as goal
 
+pub step-requires : goal.step-requires
+step-requires g c =
+    let m = c.args.modulus.now in
+    record {
+      D = length m - 1;
+      M = coefficients m;
+      Y = coefficients c.args.p.now;
+      fits = omega (arith, c.requires.fits);
+      holds = c.loop-count.invariant.reached;
+    }
+
 pub loop-count-smaller : goal.loop-count-smaller
 loop-count-smaller g c =
     let f = g.F.Field.arithmetic in

@@ -11,7 +11,7 @@ use Rattle.reader.proofs.Readings.{front_message, none_by_degree, none_by_margin
 use Rattle.reader.proofs.Tallied.{figures}
 use Rattle.reader.proofs.reading.read.Given as given
 use Rattle.reader.proofs.reading.read.Goals as goal
-use Rattle.reader.proofs.reading.read.Goals.{After-margin-of-margin}
+use Rattle.reader.proofs.reading.read.Goals.{After-margin_of-margin}
 
 pub overflow_sub-redundancy : goal.overflow_sub-redundancy
 overflow_sub-redundancy g c =
@@ -71,7 +71,7 @@ margin_of-margin-requires g c =
     }
 
 -- The margin is the message's own, and the message is all that the search left.
-found : (g : given.Over) (c : After-margin-of-margin g)
+found : (g : given.Over) (c : After-margin_of-margin g)
     → (to_z w32 (of_z w32 c.margin_of-margin.result)
     ≡ margin (scheme g.F.Field.arithmetic c.args.plan.now.record)
     (received (scheme g.F.Field.arithmetic c.args.plan.now.record) c.args.residues.now c.args.marks.now)
@@ -112,7 +112,7 @@ pub returns-then-margin-lt0 : goal.returns-then-margin-lt0
 returns-then-margin-lt0 g c =
     let s = scheme g.F.Field.arithmetic c.args.plan.now.record in
     let residues = c.args.residues.now in
-    let facts = found g (goal.at.returns-then-margin-lt0 g c).After-margin-of-margin in
+    let facts = found g (goal.at.returns-then-margin-lt0 g c).After-margin_of-margin in
     record {
       answer =
           λ h. (
@@ -126,7 +126,7 @@ returns-then-margin-lt0 g c =
 pub returns : goal.returns
 returns g c =
     let s = scheme g.F.Field.arithmetic c.args.plan.now.record in
-    let facts = found g (goal.at.returns g c).After-margin-of-margin in
+    let facts = found g (goal.at.returns g c).After-margin_of-margin in
     record {
       answer =
           λ h. (

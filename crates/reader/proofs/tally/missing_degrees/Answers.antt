@@ -7,7 +7,7 @@ use Rattle.plan.proofs.Tallies.{over_more}
 use Rattle.reader.specs.Received.{received}
 use Rattle.reader.proofs.Tallied.{few_positions, lost_missing, lost_most, lost_present, within_word}
 use Rattle.reader.proofs.tally.missing_degrees.Goals as goal
-use Rattle.reader.proofs.tally.missing_degrees.Goals.{then-is-missing, else-is-missing}
+use Rattle.reader.proofs.tally.missing_degrees.Goals.{then-is_missing, else-is_missing}
 
 pub is_missing-requires : goal.is_missing-requires
 is_missing-requires g c =
@@ -31,9 +31,9 @@ loop-i-preserved g c residues =
     let more = over_more (λ j. lost s j (received s residues marks j)) i in
     let before = c.loop-i.invariant residues in
     elim c.if-is_missing.branch [
-      | then-is-missing w ↦
-          omega (arith, w.missing-is, w.degree-missing.ensures, lost_missing s residues marks i c.is_missing.result c.is_missing.ensures w.if-is-missing.true)
-      | else-is-missing w ↦ omega (arith, w.missing-is, lost_present s residues marks i c.is_missing.result c.is_missing.ensures w.if-is-missing.false)
+      | then-is_missing w ↦
+          omega (arith, w.missing-is, w.degree-missing.ensures, lost_missing s residues marks i c.is_missing.result c.is_missing.ensures w.if-is_missing.true)
+      | else-is_missing w ↦ omega (arith, w.missing-is, lost_present s residues marks i c.is_missing.result c.is_missing.ensures w.if-is_missing.false)
     ]
 
 pub returns : goal.returns
