@@ -1,6 +1,8 @@
 -- The state of a rack over any field and memory, the request that a call is, and outcomes in one form.
 use Rattle.std.specs.Prelude.{ℕ, List, ℤ, Ok, Err, vec_items, Result}
 use Rattle.algebra.specs.Field.{Arithmetic}
+use Rattle.field.specs.declared.Field as field
+use Rattle.memory.specs.declared.meaning.Memory as memory
 use Rattle.plan.specs.Held.{scheme}
 use Rattle.rack.specs.Told.{Outcome}
 use Rattle.rack.specs.Ledger.{Request, closes, measures, opens, puts, reads, strikes}
@@ -12,13 +14,13 @@ use Rattle.rack.specs.declared.call.Found.{Found}
 use Rattle.rack.specs.declared.faults.RackFault.{RackFault}
 use Rattle.rack.specs.declared.table.Rack.{Rack}
 
-abbrev pub state : {F M : Type 0} → Arithmetic → (M → List ℕ) → (M → ℕ) → Rack F M → State
+abbrev pub state : {F M : Type 0} {fields : field.Ghosts F} {memories : memory.Ghosts M} → Arithmetic → (M → List ℕ) → (M → ℕ) → Rack F M fields memories → State
 state f cells top rack =
     record { scheme = scheme f rack.plan.record; slots = rack.slots.count; records = rack.slots.records; cells = cells rack.memory; top = top rack.memory }
 
 -- What each call promises, over any field and memory, of a rack that was made of a lawful plan and touched by calls and `overwrite_cell`
 -- alone: of every such rack `IsRack` holds.
-abbrev pub CallOn : {F M : Type 0} → Arithmetic → (M → List ℕ) → (M → ℕ) → Rack F M → Request → Outcome → Rack F M → Request → Type 0
+abbrev pub CallOn : {F M : Type 0} {fields : field.Ghosts F} {memories : memory.Ghosts M} → Arithmetic → (M → List ℕ) → (M → ℕ) → Rack F M fields memories → Request → Outcome → Rack F M fields memories → Request → Type 0
 CallOn f cells top before request outcome after given =
     IsRack (state f cells top before) → Performs (state f cells top before) request outcome (state f cells top after) given
 

@@ -8,18 +8,18 @@ use Rattle.rack.specs.declared.channel.Channel.{Channel}
 use Rattle.rack.proofs.Judging.{err_granted, ok_granted, open_judged_by, passes, refuses}
 use Rattle.rack.proofs.table.Rack.open.Goals as goal
 
-pub returns-in-err-opener : goal.returns-in-err-opener
-returns-in-err-opener g c =
+pub returns-in_err-opener : goal.returns-in_err-opener
+returns-in_err-opener g c =
     let r = state g.F.Field.arithmetic g.M.Memory.cells g.M.Memory.top c.args.self.now in
-    let p = err_from_is_err_and c.from-residual.result c.from-residual.ensures.1 in
+    let p = err_from_is_err_and c.from_residual.result c.from_residual.ensures.1 in
     rw (p.1, p.2)
     (refuses r (opens c.args.channel c.args.slot) _
-    (open_judged_by r c.args.channel c.args.slot ∙ err_granted c.args.channel _ _ c.in-err-opener.ensures))
+    (open_judged_by r c.args.channel c.args.slot ∙ err_granted c.args.channel _ _ c.in_err-opener.ensures))
 
 pub returns : goal.returns
 returns g c =
     let r = state g.F.Field.arithmetic g.M.Memory.cells g.M.Memory.top c.args.self.now in
-    let ok = ok_granted c.args.channel _ _ c.in-ok-opener.ensures in
+    let ok = ok_granted c.args.channel _ _ c.in_ok-opener.ensures in
     passes r (opens c.args.channel c.args.slot) _ _
     (open_judged_by r c.args.channel c.args.slot ∙ ok.0)
     (refl, refl) _

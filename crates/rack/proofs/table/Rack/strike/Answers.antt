@@ -9,31 +9,31 @@ use Rattle.rack.proofs.Judging.{later_passes, later_refuses, ok_settled, passes,
 use Rattle.rack.proofs.Passing.{position_passes}
 use Rattle.rack.proofs.table.Rack.strike.Goals as goal
 
-pub returns-in-err-may_use : goal.returns-in-err-may_use
-returns-in-err-may_use g c =
+pub returns-in_err-may_use : goal.returns-in_err-may_use
+returns-in_err-may_use g c =
     let r = state g.F.Field.arithmetic g.M.Memory.cells g.M.Memory.top c.args.self.now in
-    let p = err_from_is_err_and c.from-residual.result c.from-residual.ensures.1 in
+    let p = err_from_is_err_and c.from_residual.result c.from_residual.ensures.1 in
     rw (p.1, p.2)
-    (use_refuses r c.args.channel c.args.slot (strikes c.args.channel c.args.slot c.args.position) _ refl _ c.in-err-may_use.ensures)
+    (use_refuses r c.args.channel c.args.slot (strikes c.args.channel c.args.slot c.args.position) _ refl _ c.in_err-may_use.ensures)
 
-pub returns-in-err-check_position : goal.returns-in-err-check_position
-returns-in-err-check_position g c =
+pub returns-in_err-check_position : goal.returns-in_err-check_position
+returns-in_err-check_position g c =
     let r = state g.F.Field.arithmetic g.M.Memory.cells g.M.Memory.top c.args.self.now in
-    let p = err_from_is_err_and c.from-residual-in-err-check_position.result c.from-residual-in-err-check_position.ensures.1 in
+    let p = err_from_is_err_and c.from_residual-in_err-check_position.result c.from_residual-in_err-check_position.ensures.1 in
     rw (p.1, p.2)
     (later_refuses r c.args.channel c.args.slot (strikes c.args.channel c.args.slot c.args.position) _ refl
-    c.in-ok-may_use.ensures _ c.in-err-check_position.ensures)
+    c.in_ok-may_use.ensures _ c.in_err-check_position.ensures)
 
 pub strike-requires : goal.strike-requires
 strike-requires g c =
     let f = g.F.Field.arithmetic in
     let held = c.args.self.now.plan.record in
-    omega (arith, position_passes (scheme f held) c.args.slot c.args.position (ok_settled _ c.in-ok-check_position.ensures), record_positions f held, held.few)
+    omega (arith, position_passes (scheme f held) c.args.slot c.args.position (ok_settled _ c.in_ok-check_position.ensures), record_positions f held, held.few)
 
 pub returns : goal.returns
 returns g c =
     let r = state g.F.Field.arithmetic g.M.Memory.cells g.M.Memory.top c.args.self.now in
     passes r (strikes c.args.channel c.args.slot c.args.position) _ _
     (later_passes r c.args.channel c.args.slot (strikes c.args.channel c.args.slot c.args.position) _ refl
-    c.in-ok-may_use.ensures c.in-ok-check_position.ensures)
+    c.in_ok-may_use.ensures c.in_ok-check_position.ensures)
     (refl, refl) _ (ap (with_record r c.args.slot) c.strike.ensures)
