@@ -2,6 +2,8 @@
 -- under one plan have to do with one another.
 use Rattle.std.specs.Prelude.{◌≡◌, ℕ, ◌<◌, List, length, Some, None, Ok, Err, fold}
 use Rattle.algebra.specs.Field.{Arithmetic}
+use Rattle.field.specs.declared.Field as field
+use Rattle.memory.specs.declared.meaning.Memory as memory
 use Rattle.plan.specs.Accounts.{Account, Within, margin, wrong}
 use Rattle.plan.specs.Schemes.{Scheme, message_length}
 use Rattle.reader.specs.Answers.{Answered}
@@ -31,7 +33,8 @@ pub record Load : Type 0 where
   pub rack : State
 
 -- The same by what is handed in, and by the rack that comes back.
-abbrev pub load_of : {F M : Type 0} → Arithmetic → (M → List ℕ) → (M → ℕ) → ℕ → M → List Entry → List Entry → Rack F M → Load
+abbrev pub load_of : {F M : Type 0} {fields : field.Ghosts F} {memories : memory.Ghosts M}
+    → Arithmetic → (M → List ℕ) → (M → ℕ) → ℕ → M → List Entry → List Entry → Rack F M fields memories → Load
 load_of f cells top slots memory before done rack =
     record { slots = slots; cells = cells memory; top = top memory; before = before; done = done; rack = state f cells top rack }
 
