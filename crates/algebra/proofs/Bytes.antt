@@ -1,5 +1,5 @@
 -- Bytes are a field. Every byte but 0 is a power of x, the byte 2, and a product by x^i is i doublings: all laws follow from that.
-use Rattle.std.proofs.Common.{◌≡◌, ℕ, zero, suc, ◌+◌, ◌-◌, ◌*◌, ◌/◌, ◌%◌, ◌^◌, ◌<◌, ◌≤◌, Bool, true, false, cond, eqb, ltb, ◌⊎◌, List, [], ◌∷◌, map, get_or, sym, refl, ap, ◌∙◌, subst, inl, inr, ⊎_elim, add-suc, mod-lt, mul_comm, add_comm, suc-add, one-mul, zero-add, zero-mul, mul_left_comm, add-one, arith, pow_mono}
+use Rattle.std.proofs.Common.{◌≡◌, ℕ, zero, suc, ◌+◌, ◌-◌, ◌*◌, ◌/◌, ◌%◌, ◌^◌, ◌<◌, ◌≤◌, cond, eqb, ltb, ◌⊎◌, List, [], ◌∷◌, map, get_or, sym, refl, ap, ◌∙◌, subst, inl, inr, ⊎_elim, add-suc, mod-lt, add_comm, suc-add, one-mul, zero-add, zero-mul, mul_left_comm, add-one, arith, pow_mono}
 use native.Mathlib.Nat.{div-eq_of_lt, mul-div-mul_left, pow-succ'}
 use lib.Bits.{bit_xor, xor_lt, xor_mod, xor_shr, xor_self, xor_zero_r, xor_comm, xor_assoc, xor_block}
 use Rattle.std.specs.List.{range_with_len}
@@ -8,8 +8,8 @@ use Rattle.std.proofs.lemmas.Bool.{cases_lt, ltb-true}
 use Rattle.algebra.specs.Arithmetics.{byte_arithmetic, reciprocal}
 use Rattle.algebra.specs.BitPolynomials.{byte_modulus, byte_product, carry_less, power_of_two, reduce}
 use Rattle.algebra.specs.Field.{FieldLaws}
-use Rattle.algebra.proofs.Computed.{all_below, agree_below, passes_below}
-use Rattle.algebra.proofs.Guarded.{LawsOnCodes, field_laws, on_codes_inside, on_codes_outside_left, on_codes_outside_right, reciprocal_passes}
+use Rattle.algebra.proofs.Computed.{agree_below, passes_below}
+use Rattle.algebra.proofs.Guarded.{field_laws, on_codes_inside, on_codes_outside_left, on_codes_outside_right, reciprocal_passes}
 use Rattle.algebra.proofs.Laws.{inverse_unique}
 
 -- Exclusive or as a sum of bit polynomials

@@ -2,7 +2,7 @@
 use Rattle.std.proofs.Common.{◌≡◌, ℕ, zero, suc, ◌<◌, ◌≤◌, Bool, true, false, cond, eqb, ltb, ◌⊎◌, sym, refl, ap, ◌∙◌, subst, inl, inr, ⊎_elim, arith}
 use Rattle.std.proofs.lemmas.Bool.{lt-ltb, le-ltb, cases_lt, cases_order, cond_both, cond-false, both_ways, eqb-true, eq-eqb, ne_eqb}
 use Rattle.algebra.specs.Arithmetics.{on_code, on_codes, on_codes_below, such_that, reciprocal}
-use Rattle.algebra.specs.Field.{Arithmetic, FieldLaws, largest_order}
+use Rattle.algebra.specs.Field.{FieldLaws, largest_order}
 
 -- What a sum, a negative and a product have to show of the codes below q.
 pub record LawsOnCodes (q : ℕ) (plus : ℕ → ℕ → ℕ) (minus : ℕ → ℕ) (times : ℕ → ℕ → ℕ) : Type 0 where

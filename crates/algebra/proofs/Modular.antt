@@ -4,7 +4,7 @@ use native.Mathlib.Nat.{mod_self, mod-add-mod, add-mod-mod, div-add-mod, mul-add
 use Rattle.algebra.specs.Arithmetics.{modulo, reciprocal, such_that}
 use Rattle.algebra.specs.Field.{FieldLaws, largest_order}
 use Rattle.algebra.proofs.Computed.{all_below, agree_below}
-use Rattle.algebra.proofs.Guarded.{LawsOnCodes, field_laws}
+use Rattle.algebra.proofs.Guarded.{field_laws}
 
 -- A factor may be reduced before the product is.
 reduced_left : (a b q : ℕ) → a % q * b % q ≡ a * b % q

@@ -1,5 +1,5 @@
 -- From a buffer's row to the cells that it holds: what is got and set in the row is got and set in the cells.
-use Rattle.std.proofs.Common.{◌≡◌, ℕ, ◌<◌, Bool, true, false, cond, ◌&&◌, ltb, leb, List, length, get_or, take, set, Some, None, Option, sym, refl, ap, ◌∙◌, arith, length-take, get_or-take}
+use Rattle.std.proofs.Common.{◌≡◌, ℕ, ◌<◌, Bool, true, false, cond, ◌&&◌, ltb, leb, List, length, get_or, set, Some, None, Option, sym, refl, ap, ◌∙◌, arith, length-take, get_or-take}
 use lib.Seq.{take-set-lt}
 use Rattle.std.proofs.lemmas.Bool.{and_parts, ltb-true}
 use Rattle.memory.specs.Meaning.{Gets, Sets, Within, accepts, cell_at, max_cells, replaced}

@@ -1,5 +1,5 @@
 -- What a memory is: a list of cells and a top, and what getting and setting a cell do.
-use Rattle.std.specs.Prelude.{◌≡◌, ℕ, ◌≤◌, Bool, cond, ◌&&◌, List, length, set, IfSome, Some, None, Option, nat_le, nat_lt, slice_index, slice_set}
+use Rattle.std.specs.Prelude.{◌≡◌, ℕ, ◌≤◌, Bool, cond, ◌&&◌, List, length, IfSome, Some, None, Option, nat_le, nat_lt, slice_index, slice_set}
 
 -- the most cells that a memory has
 abbrev pub max_cells : ℕ

@@ -1,5 +1,5 @@
 -- The scheme that is handed in: its positions and moduli by the codes.
-use Rattle.std.proofs.Common.{◌≡◌, ℕ, ◌+◌, ◌*◌, ◌/◌, ◌<◌, ◌≤◌, List, [], length, take, drop, Some, None, Option, sym, ap, ◌∙◌, subst, arith, MatchOption}
+use Rattle.std.proofs.Common.{◌≡◌, ℕ, ◌+◌, ◌*◌, ◌/◌, ◌<◌, ◌≤◌, List, length, take, drop, None, Option, sym, ◌∙◌, subst, arith, MatchOption}
 use native.Mathlib.Nat.{div-add-mod}
 use Rattle.algebra.specs.Field.{Arithmetic}
 use Rattle.algebra.specs.Polynomial.{ShareFactor, coefficients}

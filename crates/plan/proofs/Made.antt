@@ -1,11 +1,11 @@
 -- What the checks of a plan's maker give together.
-use Rattle.std.proofs.Common.{◌≡◌, ℕ, ◌/◌, ◌<◌, ◌≤◌, List, [], length, get_or, take, sym, refl, ap, ◌∙◌, subst, arith}
+use Rattle.std.proofs.Common.{◌≡◌, ℕ, ◌/◌, ◌<◌, ◌≤◌, List, length, get_or, take, sym, ap, ◌∙◌, subst, arith}
 use Rattle.std.proofs.lemmas.List.{take_all}
 use Rattle.algebra.specs.Field.{Arithmetic}
 use Rattle.plan.specs.Agreement.{AreMonic, StartsAgree}
 use Rattle.plan.specs.Limits.{modulus_codes, most_total}
 use Rattle.plan.specs.Refusals.{Accepted}
-use Rattle.plan.specs.Schemes.{AreModuli, Clash, handed_in, held_moduli, IsScheme, IsShaped, positions, Scheme, total_degree, word_length}
+use Rattle.plan.specs.Schemes.{AreModuli, Clash, handed_in, held_moduli, IsShaped, Scheme, total_degree, word_length}
 use Rattle.plan.proofs.Held.{held_length}
 use Rattle.plan.proofs.Handed.{handed_positions}
 

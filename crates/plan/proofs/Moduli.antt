@@ -1,5 +1,5 @@
 -- Whether a list of codes is a modulus, from the tests that decide it.
-use Rattle.std.proofs.Common.{◌≡◌, ℕ, ◌<◌, ◌≤◌, true, false, eqb, List, get_or, is_some, Some, None, Decides, Option, sym, refl, ap, ◌∙◌, arith, MatchOption}
+use Rattle.std.proofs.Common.{◌≡◌, ℕ, ◌<◌, ◌≤◌, true, false, eqb, List, get_or, is_some, Some, None, Decides, Option, sym, ap, ◌∙◌, arith, MatchOption}
 use Rattle.std.proofs.lemmas.Bool.{eqb-true, eq-eqb, false≢true, true≢false}
 use Rattle.algebra.specs.Field.{Arithmetic}
 use Rattle.algebra.specs.Polynomial.{coefficients}

@@ -1,7 +1,7 @@
 -- A message is within the allowance of its own word: nothing is missing and nothing wrong.
 use Rattle.std.proofs.Common.{◌≡◌, ℕ, zero, suc, ◌≤◌, List, Some, refl, ◌∙◌, arith}
 use Rattle.std.proofs.lemmas.Int.{ints}
-use Rattle.plan.specs.Accounts.{Account, Within, charge, lost, missing, over_positions, wrong}
+use Rattle.plan.specs.Accounts.{Account, Within, charge, missing, over_positions, wrong}
 use Rattle.plan.specs.Schemes.{IsMessage, IsScheme, Scheme, message_length, positions, residue, word_length}
 use Rattle.plan.proofs.Sizes.{start_most}
 use Rattle.plan.proofs.Tallies.{over_same, own_charge}

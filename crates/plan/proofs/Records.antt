@@ -1,14 +1,14 @@
 -- What a plan's record says of its scheme.
-use Rattle.std.proofs.Common.{◌≡◌, ℕ, ◌+◌, ◌-◌, ◌*◌, ◌<◌, ◌≤◌, min, List, [], length, get_or, take, drop, sym, refl, ap, ◌∙◌, mul_comm, arith, length-drop, length-take}
+use Rattle.std.proofs.Common.{◌≡◌, ℕ, ◌+◌, ◌*◌, ◌<◌, ◌≤◌, min, [], get_or, take, drop, sym, ap, ◌∙◌, arith}
 use native.Mathlib.Decide.{dec_le}
 use lib.ListN.{get_or-eq_default}
 use Rattle.algebra.specs.Field.{Arithmetic}
 use Rattle.plan.specs.Held.{scheme}
 use Rattle.plan.specs.Limits.{modulus_codes, most_total}
-use Rattle.plan.specs.Schemes.{degree, degree_of, extent, held_moduli, modulus, positions, start, word_length}
+use Rattle.plan.specs.Schemes.{degree, degree_of, held_moduli, modulus, positions, start, word_length}
 use Rattle.plan.specs.declared.record.Record.{Record}
 use Rattle.plan.proofs.Held.{held_length, held_at_lem}
-use Rattle.plan.proofs.Sizes.{start_next, start_past, start_most, extent_length}
+use Rattle.plan.proofs.Sizes.{start_next, start_past, start_most}
 
 module _ (f : Arithmetic) (r : Record) where
   pub record_positions : positions (scheme f r) ≡ r.positions

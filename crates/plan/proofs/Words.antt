@@ -1,11 +1,11 @@
 -- The word of a message holds its remainders.
-use Rattle.std.proofs.Common.{◌≡◌, ℕ, ◌<◌, List, take, drop, sym, ap, ◌∙◌, subst}
+use Rattle.std.proofs.Common.{ℕ, List, sym, subst}
 use Rattle.algebra.specs.Field.{FieldLaws}
 use Rattle.algebra.specs.Polynomial.{coefficients}
 use Rattle.algebra.specs.Remainder.{IsRemainder}
 use Rattle.algebra.proofs.Remainders.{remainder_is}
 use Rattle.plan.specs.Refusals.{HoldsRemainders}
-use Rattle.plan.specs.Schemes.{IsMessage, IsScheme, Scheme, degree, modulus, positions, residue, start, word}
+use Rattle.plan.specs.Schemes.{IsMessage, IsScheme, Scheme, degree, modulus, word}
 use Rattle.plan.proofs.Sizes.{modulus_degree, modulus_polynomial, word_part}
 
 pub word_holds_remainders : (s : Scheme) → FieldLaws s.arithmetic → IsScheme s → (message : List ℕ) → IsMessage s message → HoldsRemainders s message (word s message)

@@ -1,4 +1,4 @@
-use Rattle.std.proofs.Common.{ℕ, List, sym, ◌∙◌, subst, arith}
+use Rattle.std.proofs.Common.{ℕ, List, sym, subst, arith}
 use Rattle.plan.specs.Held.{scheme}
 use Rattle.plan.specs.Refusals.{HoldsRemainders}
 use Rattle.plan.specs.Schemes.{IsMessage}

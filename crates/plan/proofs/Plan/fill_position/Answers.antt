@@ -1,8 +1,8 @@
-use Rattle.std.proofs.Common.{◌≡◌, ℕ, ◌+◌, ◌-◌, ◌<◌, ◌≤◌, length, take, sym, ap, ◌∙◌, arith, length-take, rules}
+use Rattle.std.proofs.Common.{◌≡◌, ◌+◌, ◌-◌, length, take, ap, ◌∙◌, arith, length-take}
 use Rattle.algebra.specs.Polynomial.{coefficients}
 use Rattle.algebra.specs.Remainder.{remainder}
 use Rattle.plan.specs.Held.{scheme}
-use Rattle.plan.specs.Schemes.{degree, extent, modulus}
+use Rattle.plan.specs.Schemes.{modulus}
 use Rattle.plan.proofs.Sizes.{extent_length}
 use Rattle.plan.proofs.Trimmed.{trimmed}
 use Rattle.plan.proofs.Plan.fill_position.Goals as goal

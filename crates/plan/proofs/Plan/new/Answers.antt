@@ -1,4 +1,4 @@
-use Rattle.std.proofs.Common.{◌≡◌, ℕ, ◌<◌, ◌≤◌, List, sym, ◌∙◌, arith}
+use Rattle.std.proofs.Common.{arith}
 use Rattle.plan.proofs.Made.{accepted, end_is, monic_kept, scheme_kept, starts_kept, total_kept}
 use Rattle.plan.proofs.Plan.new.Goals as goal
 

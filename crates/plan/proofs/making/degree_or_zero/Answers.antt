@@ -1,4 +1,4 @@
-use Rattle.std.proofs.Common.{◌<◌, sym, arith, w32, SFits, rules}
+use Rattle.std.proofs.Common.{arith, w32, SFits, rules}
 use Rattle.plan.proofs.Signs.{no_degree, some_degree}
 use Rattle.plan.proofs.Sizes.{extent_length}
 use Rattle.plan.proofs.making.degree_or_zero.Goals as goal

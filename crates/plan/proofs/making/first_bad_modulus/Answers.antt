@@ -1,6 +1,6 @@
-use Rattle.std.proofs.Common.{◌≡◌, ℕ, ◌<◌, true, false, List, sym, refl, ◌∙◌, subst, arith, below_more}
+use Rattle.std.proofs.Common.{ℕ, List, sym, refl, ◌∙◌, subst, arith, below_more}
 use Rattle.std.proofs.lemmas.Bool.{false≢true}
-use Rattle.plan.specs.Schemes.{IsModulus, handed_in, modulus}
+use Rattle.plan.specs.Schemes.{IsModulus}
 use Rattle.plan.proofs.Handed.{handed_modulus, handed_positions, group_within}
 use Rattle.plan.proofs.making.first_bad_modulus.Goals as goal
 

@@ -1,4 +1,4 @@
-use Rattle.std.proofs.Common.{◌≡◌, ℕ, ◌<◌, sym, refl, subst, arith}
+use Rattle.std.proofs.Common.{ℕ, refl, subst, arith}
 use native.Mathlib.Decide.{ℕ_discrete}
 use Rattle.plan.specs.Schemes.{Clash, IsModulus, handed_in}
 use Rattle.plan.proofs.Handed.{at_none, clash_found, clash_here, group_lawful, group_within, handed_positions}

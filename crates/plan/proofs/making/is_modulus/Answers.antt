@@ -1,4 +1,4 @@
-use Rattle.std.proofs.Common.{sym, ◌∙◌, arith}
+use Rattle.std.proofs.Common.{sym}
 use Rattle.plan.proofs.Moduli.{codes_or_none, codes_all, no_modulus, constant_is_none, monic_decides}
 use Rattle.plan.proofs.making.is_modulus.Goals as goal
 

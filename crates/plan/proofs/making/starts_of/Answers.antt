@@ -1,4 +1,4 @@
-use Rattle.std.proofs.Common.{◌≡◌, ℕ, ◌+◌, ◌*◌, ◌<◌, ◌≤◌, List, [], length, get_or, take, drop, set, replicate, sym, refl, ap, ◌∙◌, arith, length-set, rules}
+use Rattle.std.proofs.Common.{◌≡◌, ◌+◌, ◌*◌, get_or, take, drop, replicate, sym, refl, ap, ◌∙◌, arith, length-set}
 use Rattle.plan.specs.Schemes.{degree_of, held_moduli, total_degree}
 use Rattle.plan.proofs.Handed.{group_within}
 use Rattle.plan.proofs.Held.{held_next, only_zero, starts_more}

@@ -1,4 +1,4 @@
-use Rattle.std.proofs.Common.{ℕ, ◌<◌, length, get_or, arith, below_more}
+use Rattle.std.proofs.Common.{arith, below_more}
 use Rattle.plan.proofs.Numbers.{codes_throughout}
 use Rattle.plan.proofs.tests_of_codes.first_no_code.Goals as goal
 

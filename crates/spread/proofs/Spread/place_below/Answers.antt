@@ -1,4 +1,4 @@
-use Rattle.std.proofs.Common.{◌≡◌, length, sym, ap, ◌∙◌, subst, MatchOption}
+use Rattle.std.proofs.Common.{length, sym, ap, ◌∙◌, subst, MatchOption}
 use Rattle.spread.specs.Place.{Missing, Stands, placed}
 use Rattle.spread.proofs.Places.{place_permutes, placed_stands}
 use Rattle.spread.proofs.Spread.place_below.Goals as goal

@@ -1,5 +1,5 @@
 -- The table holds the inverse of each number modulo 257: the checker computes both and compares them.
-use Rattle.std.proofs.Common.{ℕ, ◌*◌, ◌%◌, map, sym, refl, ◌∙◌, arith}
+use Rattle.std.proofs.Common.{ℕ, ◌*◌, ◌%◌, sym, ◌∙◌, arith}
 use Rattle.std.proofs.lemmas.List.FromFn.{get_or-map-range_with_len}
 use Rattle.algebra.specs.Arithmetics.{reciprocal, such_that}
 use Rattle.algebra.proofs.Guarded.{on_code_inside}
