@@ -2,21 +2,20 @@
 use Rattle.std.proofs.Common.{◌≡◌, ℕ, ◌+◌, ◌*◌, ◌<◌, ◌≤◌, ltb, List, length, get_or, set, Some, None, Ok, Err, Option, sym, refl, ap, ◌∙◌, subst, arith}
 use Rattle.std.proofs.lemmas.Nat.{mul-le}
 use Rattle.std.proofs.lemmas.Bool.{cond-true, lt-ltb}
-use Rattle.plan.specs.Accounts.{Account, Within}
+use Rattle.plan.specs.Accounts.{Account}
 use Rattle.plan.specs.Limits.{most_total}
 use Rattle.plan.specs.Schemes.{Scheme, degree, word_length}
 use Rattle.reader.specs.Answers.{Answered, message_of}
 use Rattle.reader.specs.declared.answers.Reading.{Reading}
 use Rattle.rack.specs.Checks.{holder_ground, owners, residue_ground, settled, use_ground}
-use Rattle.rack.specs.Ledger.{account_in, code_fault, first_beyond, no_channel, no_code, no_position, no_slot, wrong_length}
+use Rattle.rack.specs.Ledger.{account_in, code_fault, no_channel, no_code, no_position, wrong_length}
 use Rattle.rack.specs.Limits.{most_slots}
 use Rattle.rack.specs.Reads.{SlotRead}
 use Rattle.rack.specs.States.{IsRack, State, account_of, cell_of, record_at, shown, slot_state, with_cells, with_record}
-use Rattle.rack.specs.Told.{Outcome, ReadAs}
+use Rattle.rack.specs.Told.{ReadAs}
 use Rattle.rack.specs.declared.call.Answer.TheVariants.{Message}
 use Rattle.rack.specs.declared.call.Found.{Found}
 use Rattle.rack.specs.declared.channel.Channel.{Channel}
-use Rattle.rack.specs.declared.faults.RackFault.{RackFault}
 use Rattle.rack.specs.declared.faults.RackFault.TheVariants.{Slot}
 use Rattle.rack.specs.declared.faults.SlotFault.{SlotFault}
 use Rattle.rack.specs.declared.records.SlotRecord.{SlotRecord}

@@ -1,8 +1,7 @@
 -- A rack that is just made: every slot is closed.
-use Rattle.std.proofs.Common.{◌≡◌, ℕ, ◌<◌, Bool, true, false, cond, ltb, List, [], length, get_or, replicate, None, sym, refl, ap, ◌∙◌, inl, inr, arith}
+use Rattle.std.proofs.Common.{◌≡◌, ℕ, ◌<◌, Bool, true, false, cond, ltb, List, [], length, get_or, replicate, None, refl, ap, ◌∙◌, inl, inr, arith}
 use Rattle.std.proofs.lemmas.List.{get_or_past, get_or-replicate, length-replicate}
 use Rattle.std.proofs.lemmas.Bool.{cases_lt}
-use Rattle.plan.specs.Accounts.{Account}
 use Rattle.plan.specs.Limits.{most_positions}
 use Rattle.plan.specs.Schemes.{Scheme}
 use Rattle.rack.specs.Ledger.{SlotState, closed}

@@ -1,15 +1,15 @@
 -- The checks of a call against the ledger that the rack shows, and what follows where a check refuses or passes.
-use Rattle.std.proofs.Common.{◌≡◌, ℕ, ◌<◌, ◌≤◌, Bool, true, false, cond, ltb, leb, List, is_some, Some, None, Ok, Err, Option, Result, sym, refl, ap, ◌∙◌, arith}
+use Rattle.std.proofs.Common.{◌≡◌, ℕ, ◌<◌, Bool, true, false, cond, ltb, leb, List, is_some, Some, None, Ok, Err, Option, sym, refl, ap, ◌∙◌, arith}
 use Rattle.std.proofs.lemmas.Bool.{cond-true, leb-false, lt-ltb}
 use Rattle.plan.specs.Accounts.{Account}
-use Rattle.rack.specs.Told.{Outcome, Passed, Told}
+use Rattle.rack.specs.Told.{Outcome, Passed}
 use Rattle.rack.specs.Checks.{granted, holder_ground, open_ground, opening_ground, owners, settled, use_ground}
 use Rattle.rack.specs.Channels.{channel_numbered}
-use Rattle.rack.specs.Ledger.{Request, SlotState, closes, first_of, judge, met, no_channel, no_slot, opens, reads}
-use Rattle.rack.specs.States.{IsRack, Performs, State, account_of, rack_changed, slot_state, record_at, shown, state_after}
+use Rattle.rack.specs.Ledger.{Request, first_of, judge, met, no_channel, no_slot, opens, reads}
+use Rattle.rack.specs.States.{IsRack, Performs, State, account_of, rack_changed, slot_state, record_at, shown}
 use Rattle.rack.specs.declared.channel.Channel.{Channel}
 use Rattle.rack.specs.declared.faults.RackFault.{RackFault}
-use Rattle.rack.specs.declared.faults.RackFault.TheVariants.{NoChannel, Slot}
+use Rattle.rack.specs.declared.faults.RackFault.TheVariants.{Slot}
 use Rattle.rack.specs.declared.faults.SlotFault.TheVariants.{NoSlot}
 use Rattle.rack.proofs.Passing.{holder, in_parts, judge_parts, use_passes, used}
 use Rattle.rack.proofs.Performing.{performs}

@@ -1,10 +1,10 @@
 -- What a call that meets none of the grounds 10 to 17 has shown of what it is given; and the grounds in the parts in which the
 -- rack looks for them.
-use Rattle.std.proofs.Common.{◌≡◌, ℕ, ◌<◌, Bool, true, false, not, eqb, leb, List, [], ◌∷◌, length, Some, None, Option, sym, refl, ap, ◌∙◌, arith}
+use Rattle.std.proofs.Common.{◌≡◌, ℕ, ◌<◌, Bool, true, false, not, eqb, leb, List, length, Some, None, Option, sym, refl, ap, ◌∙◌, arith}
 use Rattle.std.proofs.lemmas.Bool.{eqb-true, leb-false, not-false}
 use Rattle.plan.specs.Schemes.{Scheme, degree, message_length, positions}
 use Rattle.rack.specs.Checks.{holder_ground, message_ground, open_ground, opening_ground, residue_ground, use_ground}
-use Rattle.rack.specs.Ledger.{Ledger, Request, SlotState, closed, closes, first_met, first_of, is_closed, judge, measures, met, no_channel, no_code, no_position, no_slot, open_already, open_for, opens, other_channel, puts, reads, strikes, wrong_length}
+use Rattle.rack.specs.Ledger.{Ledger, Request, SlotState, closed, closes, first_of, is_closed, judge, measures, met, no_channel, no_code, no_position, no_slot, open_already, open_for, opens, other_channel, puts, reads, strikes, wrong_length}
 use Rattle.rack.specs.declared.channel.Channel.{Channel}
 use Rattle.rack.specs.declared.faults.RackFault.{RackFault}
 use Rattle.rack.specs.declared.faults.RackFault.TheVariants.{Slot}

@@ -1,5 +1,5 @@
 -- Euclid's extended algorithm run to its end: the inverse of p modulo m.
-use Rattle.std.proofs.Common.{◌≡◌, ℕ, suc, ◌+◌, ◌-◌, ◌<◌, ◌≤◌, List, length, sym, refl, ap, ◌∙◌, subst, arith}
+use Rattle.std.proofs.Common.{◌≡◌, ℕ, ◌+◌, ◌-◌, ◌<◌, ◌≤◌, List, length, sym, ap, ◌∙◌, subst, arith}
 use native.Mathlib.Decide.{dec_le, dec_lt}
 use Rattle.algebra.specs.Field.{Arithmetic, FieldLaws}
 use Rattle.algebra.specs.Moduli.{Congruent, Coprime, one, nought, monomial}
@@ -7,8 +7,8 @@ use Rattle.algebra.specs.Polynomial.{Below, HasDegree, IsPolynomial, add, coeffi
 use Rattle.algebra.proofs.Coefficients.{below_more, below_nought, below_multiply, degree_less, degree_one_only, monomial_polynomial, multiply_comm, multiply_polynomial, nought_add, monomial_off}
 use Rattle.algebra.proofs.Reading.{constant_inverse, euclid_inverse, euclid_shared}
 use Rattle.algebra.proofs.Residues.{coprime_not_shared}
-use Rattle.poly.specs.Extended.{Extended, Running}
-use Rattle.poly.specs.Slices.{Codes, Significant, capacity}
+use Rattle.poly.specs.Extended.{Extended}
+use Rattle.poly.specs.Slices.{Significant}
 use Rattle.poly.specs.declared.steps.Euclid.{Euclid}
 use Rattle.poly.proofs.Fronts.{significant_degree}
 use Rattle.poly.proofs.ExtendedState.{to_euclidean}

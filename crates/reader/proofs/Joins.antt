@@ -1,7 +1,7 @@
 -- One more modulus: what makes its residue right, and what the state is afterwards.
-use Rattle.std.proofs.Common.{◌≡◌, ℕ, suc, ◌+◌, ◌-◌, ◌<◌, ◌≤◌, List, length, sym, refl, ap, ◌∙◌, subst, arith}
+use Rattle.std.proofs.Common.{◌≡◌, ℕ, suc, ◌+◌, ◌<◌, List, length, sym, subst, arith}
 use Rattle.algebra.specs.Field.{Arithmetic, FieldLaws}
-use Rattle.algebra.specs.Moduli.{Congruent, Coprime, one, nought}
+use Rattle.algebra.specs.Moduli.{Congruent, Coprime, one}
 use Rattle.algebra.specs.Polynomial.{Below, HasDegree, IsPolynomial, add, coefficients, multiply, subtract}
 use Rattle.algebra.specs.Remainder.{IsRemainder}
 use Rattle.algebra.proofs.Coefficients.{below_more, coefficients_below, degree_multiply, list_polynomial, multiply_polynomial, one_polynomial, subtract_polynomial}

@@ -122,8 +122,8 @@ module _ (depth : ℕ) (below : List ℕ) (j : ℕ) where
       record { gets = λ top. gets_past (spread_row depth below) j top past'; sets = λ top v. sets_past (spread_row depth below) j top past' v }
 
   stands_by : (b : Bool) → (b ≡ true → j < length below) → (b ≡ false → length below ≤ j) → MatchOption (cond b (Some (place depth (length below) j)) None) (Missing depth below j) (Stands depth below j)
-  stands_by true inside past = stands (inside refl)
-  stands_by false inside past = missing (past refl)
+  stands_by true here past = stands (here refl)
+  stands_by false here past = missing (past refl)
 
   pub placed_stands : MatchOption (placed depth (length below) j) (Missing depth below j) (Stands depth below j)
   placed_stands = stands_by (ltb j (length below)) (ltb-true j (length below)) (ltb-false j (length below))

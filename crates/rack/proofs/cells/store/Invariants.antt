@@ -1,4 +1,3 @@
-use Rattle.std.proofs.Common.{◌≡◌, take}
 use Rattle.rack.proofs.Storing.{StoredTo}
 use Rattle.rack.proofs.cells.store.Given as goal
 

@@ -1,4 +1,4 @@
-use Rattle.std.proofs.Common.{◌≡◌, ℕ, ◌-◌, ◌<◌, ◌≤◌, List, length, take, Some, sym, refl, ap, ◌∙◌, subst, inl, inr, arith, rules}
+use Rattle.std.proofs.Common.{◌≡◌, ℕ, ◌-◌, ◌≤◌, List, length, take, Some, sym, subst, inl, inr, arith, rules}
 use Rattle.algebra.specs.Polynomial.{Below, coefficients}
 use Rattle.algebra.proofs.Coefficients.{below_more}
 use Rattle.reader.specs.Finding.{Quotient}

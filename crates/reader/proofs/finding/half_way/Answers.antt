@@ -1,4 +1,4 @@
-use Rattle.std.proofs.Common.{◌≡◌, ℕ, ◌+◌, ◌-◌, ◌*◌, ◌<◌, ◌≤◌, List, length, sym, refl, ap, ◌∙◌, subst, arith, rules}
+use Rattle.std.proofs.Common.{◌≡◌, ◌-◌, ◌<◌, length, arith, rules}
 use Rattle.algebra.specs.Polynomial.{coefficients}
 use Rattle.poly.proofs.Fronts.{significant_degree}
 use Rattle.reader.proofs.Inverting.{fewer}

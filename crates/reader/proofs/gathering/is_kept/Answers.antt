@@ -1,4 +1,4 @@
-use Rattle.std.proofs.Common.{◌≡◌, sym, ◌∙◌}
+use Rattle.std.proofs.Common.{sym, ◌∙◌}
 use Rattle.std.proofs.lemmas.Bool.Decides.{same_from_decides}
 use Rattle.reader.specs.Gathering.{all_below}
 use Rattle.reader.proofs.Gathers.{decides_codes, usable_absent, usable_last, usable_no_codes}

@@ -1,4 +1,3 @@
-use Rattle.algebra.specs.Polynomial.{coefficients}
 use Rattle.reader.proofs.Inverting.{Inverting}
 use Rattle.reader.proofs.joining.inverse_modulo.Given as goal
 

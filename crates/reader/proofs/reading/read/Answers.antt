@@ -1,4 +1,4 @@
-use Rattle.std.proofs.Common.{◌≡◌, ℕ, ◌-◌, ◌≤◌, length, take, Some, None, ◌∙◌, subst, arith, w32, to_z, of_z, rules}
+use Rattle.std.proofs.Common.{◌≡◌, ℕ, ◌≤◌, length, take, Some, None, ◌∙◌, subst, arith, w32, to_z, of_z, rules}
 use Rattle.std.proofs.lemmas.Int.{ints}
 use Rattle.algebra.specs.Polynomial.{coefficients}
 use Rattle.plan.specs.Accounts.{margin}

@@ -1,4 +1,4 @@
-use Rattle.std.proofs.Common.{List, replicate, sym, refl, subst}
+use Rattle.std.proofs.Common.{replicate, sym, refl, subst}
 use Rattle.plan.specs.Held.{scheme}
 use Rattle.rack.specs.Limits.{most_slots}
 use Rattle.rack.specs.Making.{Made}

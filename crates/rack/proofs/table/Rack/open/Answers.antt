@@ -1,4 +1,4 @@
-use Rattle.std.proofs.Common.{replicate, Some, sym, refl, ap, ◌∙◌}
+use Rattle.std.proofs.Common.{replicate, Some, refl, ap, ◌∙◌}
 use Rattle.std.proofs.lemmas.Result.{err_from_is_err_and}
 use Rattle.plan.specs.Limits.{most_positions}
 use Rattle.rack.specs.Ledger.{opens}

@@ -1,4 +1,4 @@
-use Rattle.std.proofs.Common.{◌≡◌, ℕ, ◌-◌, ◌≤◌, List, length, take, Result, sym, refl, ap, ◌∙◌, subst, arith, w32, to_z, of_z, rules}
+use Rattle.std.proofs.Common.{◌≡◌, ◌-◌, take, refl, ap, ◌∙◌, arith, w32, to_z, of_z, rules}
 use Rattle.std.proofs.lemmas.Result.{err_from_is_err_and}
 use Rattle.plan.specs.Held.{scheme}
 use Rattle.plan.specs.Schemes.{message_length}
@@ -6,9 +6,8 @@ use Rattle.plan.proofs.Sizes.{start_most}
 use Rattle.rack.specs.Checks.{settled}
 use Rattle.rack.specs.Ledger.{reads, wrong_length}
 use Rattle.rack.specs.Racks.{state}
-use Rattle.rack.specs.declared.faults.RackFault.{RackFault}
 use Rattle.rack.proofs.Answering.{account_used, reading_found, reading_refused}
-use Rattle.rack.proofs.Judging.{later_passes, later_refuses, ok_settled, passes, use_refuses}
+use Rattle.rack.proofs.Judging.{later_passes, later_refuses, passes, use_refuses}
 use Rattle.rack.proofs.table.Rack.read.Goals as goal
 
 pub returns-in_err-may_use : goal.returns-in_err-may_use

@@ -1,4 +1,4 @@
-use Rattle.std.proofs.Common.{◌≡◌, ◌+◌, ◌*◌, ◌≤◌, length, ap, arith}
+use Rattle.std.proofs.Common.{◌+◌, ◌*◌, ◌≤◌, length, ap, arith}
 use Rattle.rack.specs.Racks.{state}
 use Rattle.rack.proofs.Loading.{slot_loaded}
 use Rattle.rack.proofs.Showing.{slot_room}

@@ -1,6 +1,5 @@
-use Rattle.std.proofs.Common.{◌≡◌, ℕ, ◌+◌, ◌-◌, ◌≤◌, List, length, take, sym, refl, ap, ◌∙◌, subst, arith, rules}
+use Rattle.std.proofs.Common.{◌≡◌, ℕ, ◌-◌, ◌≤◌, length, take, sym, ap, ◌∙◌, subst, arith, rules}
 use Rattle.std.proofs.lemmas.List.{length-take-le}
-use Rattle.algebra.specs.Moduli.{nought}
 use Rattle.algebra.specs.Polynomial.{Below, HasDegree, add, coefficients, multiply, subtract}
 use Rattle.algebra.specs.Remainder.{IsRemainder}
 use Rattle.algebra.proofs.Coefficients.{list_polynomial, nought_add}
