@@ -1,6 +1,6 @@
 -- A line has one expression: a builder, a function of the bytes alone, forms the expression of every line.
 use Rattle.std.proofs.Common.{◌≡◌, ℕ, zero, suc, ◌+◌, ◌-◌, ◌*◌, ◌≤◌, false, cond, eqb, List, [], ◌∷◌, ◌++◌, length, sym, refl, ap, ◌∙◌, arith}
-use Rattle.std.specs.List.{AllByRecursion as All}
+use Rattle.std.specs.List.{AllByRecursion}
 use Rattle.expression.specs.Bytes.{Digit, caret, first_digit, left_bracket, letter_z, line_end, plus_sign, right_bracket, times_sign}
 use Rattle.expression.specs.Grammar.{IsModulusLine, IsNumber, Kind, OneExpression, Phrase, a_number, a_power, a_z, factor, in_brackets, numeral, one_factor, one_term, plus, sum, term, times}
 use Rattle.expression.specs.Limits.{most_digits}
@@ -115,7 +115,7 @@ by_sign b d c (exponent (suc k) m) w l ls = rw d refl
 by_sign b d c (bracketed e) w l ls = refl
 
 -- Digits that are few go into the number in hand.
-build_digits : (k m : ℕ) (x : List ℕ) (l : Level) (ls : List Level) → length x ≤ k → All Digit x
+build_digits : (k m : ℕ) (x : List ℕ) (l : Level) (ls : List Level) → length x ≤ k → AllByRecursion Digit x
     → build (building (digits k m) l ls) x ≡ building (digits (k - length x) (numeral m x)) l ls
 build_digits k m [] l ls h a = ap (λ j. building (digits j m) l ls) (omega arith)
 build_digits zero m (b ∷ x) l ls h a = absurd (omega arith)
@@ -124,7 +124,7 @@ build_digits (suc k) m (b ∷ x) l ls h a =
     (build_digits k (10 * m + (b - first_digit)) x l ls (omega arith) a.1
     ∙ ap (λ j. building (digits j (numeral (10 * m + (b - first_digit)) x)) l ls) (omega arith))
 
-build_exponent : (k m : ℕ) (x : List ℕ) (l : Level) (ls : List Level) → length x ≤ k → All Digit x
+build_exponent : (k m : ℕ) (x : List ℕ) (l : Level) (ls : List Level) → length x ≤ k → AllByRecursion Digit x
     → build (building (exponent k m) l ls) x ≡ building (exponent (k - length x) (numeral m x)) l ls
 build_exponent k m [] l ls h a = ap (λ j. building (exponent j m) l ls) (omega arith)
 build_exponent zero m (b ∷ x) l ls h a = absurd (omega arith)

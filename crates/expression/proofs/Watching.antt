@@ -1,7 +1,7 @@
 -- The watch goes through every phrase, and leaves it where a sign may follow.
 use Rattle.std.proofs.Common.{◌≡◌, ℕ, zero, suc, ◌-◌, ◌<◌, ◌≤◌, true, false, cond, eqb, ltb, List, [], ◌∷◌, ◌++◌, length, refl, ap, ◌∙◌, arith}
 use Rattle.std.proofs.lemmas.Bool.Decides.{nat_tests}
-use Rattle.std.specs.List.{AllByRecursion as All}
+use Rattle.std.specs.List.{AllByRecursion}
 use Rattle.expression.specs.Bytes.{Digit, caret, left_bracket, line_end, plus_sign, right_bracket, times_sign}
 use Rattle.expression.specs.Grammar.{IsNumber, Kind, Phrase, a_number, a_power, a_z, in_brackets, one_factor, one_term, plus, times}
 use Rattle.expression.specs.Limits.{most_brackets, most_digits}
@@ -58,7 +58,7 @@ pub by_end : (n : ℕ) (q : Spot) → Whole q → step (inside n q) line_end ≡
 by_end n q h = by_sign n line_end (refl, refl) q h
 
 -- More digits, while they are few.
-more_digits : (n k : ℕ) (x : List ℕ) → length x ≤ k → All Digit x → watch (inside n (whole k)) x ≡ inside n (whole (k - length x))
+more_digits : (n k : ℕ) (x : List ℕ) → length x ≤ k → AllByRecursion Digit x → watch (inside n (whole k)) x ≡ inside n (whole (k - length x))
 more_digits n k [] h a = ap (λ m. inside n (whole m)) (omega arith)
 more_digits n zero (b ∷ x) h a = absurd (omega arith)
 more_digits n (suc k) (b ∷ x) h a =

@@ -1,7 +1,7 @@
 -- How expressions are written: a sum is terms joined by `+`, a term is factors joined by `*`, and a factor is a number of one to three
 -- digits, `z`, `z^` and such a number, or a sum in brackets.
 use Rattle.std.specs.Prelude.{◌≡◌, ℕ, suc, ◌+◌, ◌-◌, ◌*◌, ◌≤◌, List, [], ◌∷◌, ◌++◌, length}
-use Rattle.std.specs.List.{AllByRecursion as All}
+use Rattle.std.specs.List.{AllByRecursion}
 use Rattle.expression.specs.Bytes.{Digit, caret, first_digit, left_bracket, letter_z, line_end, plus_sign, right_bracket, times_sign}
 use Rattle.expression.specs.Limits.{most_brackets, most_digits}
 use Rattle.expression.specs.Values.{Expression, number, power, product_of, sum_of}
@@ -10,7 +10,7 @@ use Rattle.expression.specs.Values.{Expression, number, power, product_of, sum_o
 pub record IsNumber (x : List ℕ) : Type 0 where
   pub some : 1 ≤ length x
   pub few : length x ≤ most_digits
-  pub digits : All Digit x
+  pub digits : AllByRecursion Digit x
 
 -- The number that digits write, where n is written before them.
 abbrev pub numeral : ℕ → List ℕ → ℕ

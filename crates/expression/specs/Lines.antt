@@ -1,8 +1,8 @@
 -- What reading a line with a modulus answers.
-use Rattle.std.specs.Prelude.{◌≡◌, ℕ, ◌≤◌, List, Option}
+use Rattle.std.specs.Prelude.{◌≡◌, ℕ, List, Option}
 use Rattle.algebra.specs.Field.{Arithmetic}
 use Rattle.expression.specs.Grammar.{IsModulusLine}
-use Rattle.expression.specs.Texts.{Got, Lost}
+use Rattle.expression.specs.Texts.{Got}
 use Rattle.expression.specs.Values.{Expression, value}
 
 -- A line that holds some modulus.

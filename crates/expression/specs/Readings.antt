@@ -1,6 +1,6 @@
 -- What the readers of a sum, a term and a factor promise each other: what was read, or where reading stopped.
 use Rattle.std.specs.Prelude.{◌≡◌, ℕ, ◌+◌, ◌<◌, ◌≤◌, ◌⊎◌, List, ◌++◌, length, slice_index}
-use Rattle.std.specs.List.{between, AllByRecursion as All}
+use Rattle.std.specs.List.{between, AllByRecursion}
 use Rattle.algebra.specs.Field.{Arithmetic}
 use Rattle.expression.specs.Bytes.{Digit, line_end, plus_sign, right_bracket, times_sign}
 use Rattle.expression.specs.Grammar.{Kind, Phrase, factor, sum, term}
@@ -44,5 +44,5 @@ pub record DigitsTo (s : List ℕ) (i j : ℕ) : Type 0 where
   pub more : i ≤ j
   pub few : j ≤ i + most_digits
   pub within : j ≤ length s
-  pub digits : All Digit (between i j s)
+  pub digits : AllByRecursion Digit (between i j s)
   pub stops : j < i + most_digits → j < length s → Digit (slice_index s j) → ⊥

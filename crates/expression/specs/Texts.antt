@@ -1,5 +1,5 @@
 -- A text of a language, read from a place of a sheet; and the place where what stands there stops being one.
-use Rattle.std.specs.Prelude.{◌≡◌, ℕ, ◌+◌, ◌<◌, ◌≤◌, List, ◌++◌, length}
+use Rattle.std.specs.Prelude.{ℕ, ◌+◌, ◌<◌, ◌≤◌, List, ◌++◌, length}
 use Rattle.std.specs.List.{between}
 
 -- From i to j the bytes are a text of L.

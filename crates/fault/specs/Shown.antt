@@ -1,6 +1,5 @@
 -- What a refusal looks like: `no 8 M 0 0` is ground 8 of the memory layer, with no place named.
-use Rattle.std.specs.Prelude.{ℕ, List, ◌++◌, codes, decimal}
-use Rattle.std.proofs.Math.Utf8.{encode}
+use Rattle.std.specs.Prelude.{ℕ, List, ◌++◌, codes, decimal, encode_utf8}
 use Rattle.fault.specs.declared.Ground.{Ground}
 use Rattle.fault.specs.declared.Layer.{Layer}
 use Rattle.fault.specs.declared.Layer.TheVariants.{Sheet, Plan, Memory, Rack, Reader}
@@ -19,4 +18,4 @@ spaced word rest = word ++ (codes " " ++ rest)
 
 -- the line that is printed for a ground: the word no, the number, the letter and the two places, parted by one blank
 abbrev pub line : Ground → List ℕ
-line g = spaced (codes "no") (spaced (decimal g.number) (spaced (encode (letter_of g.layer)) (spaced (decimal g.first) (decimal g.second))))
+line g = spaced (codes "no") (spaced (decimal g.number) (spaced (encode_utf8 (letter_of g.layer)) (spaced (decimal g.first) (decimal g.second))))

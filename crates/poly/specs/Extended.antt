@@ -6,22 +6,22 @@ use Rattle.poly.specs.declared.steps.Euclid.{Euclid}
 use Rattle.poly.specs.Slices.{Codes, Divided, capacity}
 
 -- M has degree D. Both remainders are combinations s·M + t·Y; deg t + deg previous = D; and what divides both divides M and Y.
-pub record Extended (f : Arithmetic) (D : ℕ) (M Y previous current t-previous t : ℕ → ℕ) : Type 0 where
+pub record Extended (f : Arithmetic) (D : ℕ) (M Y previous current t_previous t : ℕ → ℕ) : Type 0 where
   pub M_polynomial : IsPolynomial f M
   pub Y_polynomial : IsPolynomial f Y
   pub previous_polynomial : IsPolynomial f previous
   pub current_polynomial : IsPolynomial f current
-  pub t_previous_polynomial : IsPolynomial f t-previous
+  pub t_previous_polynomial : IsPolynomial f t_previous
   pub t_polynomial : IsPolynomial f t
   pub s_previous : ℕ → ℕ
   pub s_previous_polynomial : IsPolynomial f s_previous
   pub s : ℕ → ℕ
   pub s_polynomial : IsPolynomial f s
-  pub previous_is : previous ≡ add f (multiply f s_previous M) (multiply f t-previous Y)
+  pub previous_is : previous ≡ add f (multiply f s_previous M) (multiply f t_previous Y)
   pub current_is : current ≡ add f (multiply f s M) (multiply f t Y)
   pub t_degree : ℕ
   pub t_has : HasDegree t_degree t
-  pub t_previous_below : Below t_degree t-previous
+  pub t_previous_below : Below t_degree t_previous
   pub previous_degree : ℕ
   pub previous_has : HasDegree previous_degree previous
   pub current_below : Below previous_degree current
@@ -41,7 +41,7 @@ pub record Running (f : Arithmetic) (e : Euclid) : Type 0 where
   pub fits : D < capacity
   pub holds : Holds f D M Y e
 
--- One step: the previous remainder is divided by the current one, and quotient·t is taken off t-previous.
+-- One step: the previous remainder is divided by the current one, and quotient·t is taken off t_previous.
 pub record Stepped (f : Arithmetic) (from to : Euclid) : Type 0 where
   pub quotient : ℕ → ℕ
   pub divided : Divided f (coefficients from.previous) (coefficients from.current) quotient (coefficients to.current)

@@ -13,7 +13,7 @@ fit_ground = record { number = 9; layer = layer.Memory; first = 0; second = 0 }
 
 -- A fault of the reader keeps its number, its letter and its second place, and gets the slot as the first.
 abbrev pub at_slot : ℕ → Ground → Ground
-at_slot slot ground = record { number = ground.number; layer = ground.layer; first = slot; second = ground.second }
+at_slot slot cause = record { number = cause.number; layer = cause.layer; first = slot; second = cause.second }
 
 abbrev pub slot_ground : ℕ → SlotFault → Ground
 slot_ground slot NoSlot = record { number = 11; layer = layer.Rack; first = slot; second = 0 }

@@ -42,7 +42,7 @@ first_of None later = later
 
 abbrev pub first_met : List (Option RackFault) → Option RackFault
 first_met [] = None
-first_met (ground ∷ grounds) = first_of ground (first_met grounds)
+first_met (first ∷ later) = first_of first (first_met later)
 
 -- 10: the channel is neither 0 nor 1.
 abbrev pub no_channel : ℕ → Option RackFault

@@ -1,5 +1,5 @@
 -- Numbers one after the other, as the readers tell them.
-use Rattle.std.proofs.Common.{◌≡◌, ℕ, ◌+◌, ◌-◌, ◌<◌, ◌≤◌, List, [], ◌∷◌, ◌++◌, length, get_or, Err, sym, ap, ◌∙◌, subst, inl, inr, append_assoc, append-nil, arith, lit<, length-append}
+use Rattle.std.proofs.Common.{◌≡◌, ℕ, ◌+◌, ◌<◌, ◌≤◌, List, [], ◌∷◌, ◌++◌, length, get_or, Err, sym, ap, ◌∙◌, subst, inl, inr, append_assoc, append-nil, arith, lit<, length-append}
 use Rattle.std.proofs.lemmas.List.Edits.{between_none, length-between}
 use Rattle.std.specs.List.{between}
 use Rattle.expression.specs.Grammar.{numeral}

@@ -1,5 +1,5 @@
 -- What the numbers after channel and slot come to, call by call.
-use Rattle.std.proofs.Common.{◌≡◌, ℕ, ◌<◌, ◌≤◌, List, [], ◌∷◌, Err, sym, refl, subst, arith, lit<, lit≤}
+use Rattle.std.proofs.Common.{◌≡◌, ℕ, List, [], ◌∷◌, Err, sym, refl, subst, arith, lit<, lit≤}
 use Rattle.rack.specs.Ledger.{closes, measures, opens, puts, reads, strikes}
 use Rattle.sheet.specs.CallNumbers.{CodesAt, CodesTold, HeadingTold, NumberAt, NumberTold, NumbersAt, one_more_at}
 use Rattle.sheet.specs.CallTexts.{TextAt, TextTold, says_close, says_measure, says_open, says_put, says_read, says_strike}

@@ -1,12 +1,12 @@
 -- Texts that end in the first byte 10 they hold: each stands first in one way only.
 use Rattle.std.proofs.Common.{◌≡◌, ℕ, List, [], ◌∷◌, ◌++◌, sym, refl, ap, ◌∙◌}
-use Rattle.std.specs.List.{AllByRecursion as All}
+use Rattle.std.specs.List.{AllByRecursion}
 use Rattle.expression.specs.Bytes.{line_end}
 use Rattle.sheet.proofs.Chains.{Alone, Told, alone}
 
 -- No byte of the text ends a line.
 abbrev pub Plain : List ℕ → Type 0
-Plain x = All (λ b. ¬ (b ≡ line_end)) x
+Plain x = AllByRecursion (λ b. ¬ (b ≡ line_end)) x
 
 pub record Ended (x : List ℕ) : Type 0 where
   pub text : List ℕ

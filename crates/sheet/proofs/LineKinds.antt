@@ -1,6 +1,6 @@
 -- The kinds of lines: each line holds byte 10 at its end only, and there is one of each kind.
 use Rattle.std.proofs.Common.{ℕ, List, [], ◌∷◌, ◌++◌, codes, sym, refl, append_assoc, arith, lit≤}
-use Rattle.std.specs.List.{AllByRecursion as All}
+use Rattle.std.specs.List.{AllByRecursion}
 use Rattle.expression.specs.Bytes.{Digit, line_end}
 use Rattle.expression.specs.Grammar.{Kind, Phrase, a_number, a_power, a_z, in_brackets, one_factor, one_term, plus, times}
 use Rattle.expression.specs.Lines.{AnyLine}
@@ -13,7 +13,7 @@ use Rattle.sheet.specs.Parts.{AnyFieldLine}
 use Rattle.sheet.proofs.Chains.{Alone}
 use Rattle.sheet.proofs.Ended.{Ended, Plain, alone_lines, plain_append}
 
-plain_digits : (x : List ℕ) → All Digit x → Plain x
+plain_digits : (x : List ℕ) → AllByRecursion Digit x → Plain x
 plain_digits [] h = tt
 plain_digits (b ∷ x) h = ((λ e. omega (arith, h.0.0)), plain_digits x h.1)
 

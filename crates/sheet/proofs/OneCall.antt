@@ -1,7 +1,7 @@
 -- A line has one call: its first letter tells the word, and its numbers can be read in one way only.
 use Rattle.std.proofs.Common.{◌≡◌, ℕ, cond, eqb, List, [], ◌∷◌, ◌++◌, get_or, drop, codes, sym, refl, ap, ◌∙◌, arith}
 use Rattle.std.proofs.lemmas.List.{append_cancel_left, append_cancel_right}
-use Rattle.std.specs.List.{AllByRecursion as All}
+use Rattle.std.specs.List.{AllByRecursion}
 use Rattle.expression.specs.Bytes.{Digit, line_end}
 use Rattle.expression.specs.Grammar.{numeral}
 use Rattle.rack.specs.Ledger.{Request, closes, measures, opens, puts, reads, strikes}
@@ -16,7 +16,7 @@ unfolding Blank
 blank no_numbers c t e = let z : ◌≡◌ {A = ℕ} 0 1 = cc in absurd (omega arith)
 blank (number_more h more) c t e = cc
 
-digits_cut : (a b r q : List ℕ) → All Digit a → All Digit b → Blank r → Blank q → a ++ r ≡ b ++ q → (a ≡ b) × (r ≡ q)
+digits_cut : (a b r q : List ℕ) → AllByRecursion Digit a → AllByRecursion Digit b → Blank r → Blank q → a ++ r ≡ b ++ q → (a ≡ b) × (r ≡ q)
 unfolding Blank
 digits_cut [] [] r q h k u v e = (refl, e)
 digits_cut [] (c ∷ b) r q h k u v e = let f = u c (b ++ q) e in absurd (omega (arith, f, k.0.0))

@@ -2,7 +2,7 @@
 use Rattle.std.proofs.Common.{◌≡◌, ℕ, zero, suc, ◌+◌, ◌-◌, ◌<◌, ◌≤◌, true, false, ltb, leb, List, [], ◌∷◌, ◌++◌, length, get_or, sym, refl, ap, ◌∙◌, subst, arith, lit≤, length-append}
 use Rattle.std.proofs.lemmas.List.Edits.{between_more, between_none}
 use Rattle.std.proofs.lemmas.Bool.Decides.{nat_tests}
-use Rattle.std.specs.List.{between, AllByRecursion as All}
+use Rattle.std.specs.List.{between, AllByRecursion}
 use Rattle.expression.specs.Bytes.{Digit, line_end}
 use Rattle.expression.specs.Texts.{Lost}
 use Rattle.sheet.specs.CallLines.{AnyCallLine}
@@ -12,7 +12,7 @@ use Rattle.sheet.specs.Grammar.{IsCallNumber, Numbers, blank_byte, close_line, m
 use Rattle.sheet.specs.declared.call_names.CallName.{CallName}
 use Rattle.sheet.specs.declared.call_names.CallName.TheVariants.{Close, Measure, Open, Put, Read, Strike}
 use Rattle.sheet.proofs.Between.{part_join}
-use Rattle.sheet.proofs.Machine.{State, after, before, begins, dead, digit, over, run, spells, step, wants}
+use Rattle.sheet.proofs.Machine.{State, after, before, dead, digit, over, run, spells, step, wants}
 use Rattle.sheet.proofs.CallRows.{row_length}
 
 pub run_++ : (q : State) (x y : List ℕ) → run q (x ++ y) ≡ run (run q x) y
@@ -29,7 +29,7 @@ is_digit b d = grind (arith, nat_tests)
 pub no_digit : (b : ℕ) → (Digit b → ⊥) → digit b ≡ false
 no_digit b d = grind (arith, nat_tests)
 
-run_digits : (name : CallName) (k room : ℕ) (x : List ℕ) → length x ≤ room → All Digit x → run (after name k room) x ≡ after name k (room - length x)
+run_digits : (name : CallName) (k room : ℕ) (x : List ℕ) → length x ≤ room → AllByRecursion Digit x → run (after name k room) x ≡ after name k (room - length x)
 run_digits name k room [] h a = ap (after name k) (omega arith)
 run_digits name k zero (b ∷ x) h a = absurd (omega arith)
 run_digits name k (suc room) (b ∷ x) h a =

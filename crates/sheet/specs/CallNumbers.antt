@@ -1,6 +1,6 @@
 -- What reading the numbers of a call answers.
 use Rattle.std.specs.Prelude.{◌≡◌, ℕ, ◌+◌, ◌<◌, ◌≤◌, ◌⊎◌, List, [], ◌∷◌, ◌++◌, length, Ok, Err, vec_items, Result, ◌≢◌, slice_index}
-use Rattle.std.specs.List.{between, AllByRecursion as All}
+use Rattle.std.specs.List.{between, AllByRecursion}
 use Rattle.expression.specs.Bytes.{Digit}
 use Rattle.expression.specs.Grammar.{numeral}
 use Rattle.sheet.specs.Grammar.{IsCallNumber, blank_byte}
@@ -17,7 +17,7 @@ pub record DigitsTo (s : List ℕ) (i j : ℕ) : Type 0 where
   pub more : i ≤ j
   pub few : j ≤ i + most_call_digits
   pub within : j ≤ length s
-  pub digits : All Digit (between i j s)
+  pub digits : AllByRecursion Digit (between i j s)
   pub stops : j < i + most_call_digits → j < length s → Digit (slice_index s j) → ⊥
 
 -- From i to j stands a blank and a number, which is x in digits, and which the byte at j does not carry on.

@@ -1,7 +1,7 @@
 -- How a sheet is written: lines that each end in byte 10, in four sections, each after its count on a line of its own: the field, the
 -- carrying moduli, the spare moduli and the calls. Nothing follows the last section.
 use Rattle.std.specs.Prelude.{◌≡◌, ℕ, ◌≤◌, List, [], ◌∷◌, ◌++◌, length, codes, decimal}
-use Rattle.std.specs.List.{AllByRecursion as All}
+use Rattle.std.specs.List.{AllByRecursion}
 use Rattle.expression.specs.Bytes.{Digit, line_end}
 use Rattle.expression.specs.Grammar.{IsModulusLine, numeral}
 use Rattle.expression.specs.Values.{Expression}
@@ -52,7 +52,7 @@ blank_byte = 32
 pub record IsCallNumber (x : List ℕ) : Type 0 where
   pub some : 1 ≤ length x
   pub few : length x ≤ most_call_digits
-  pub digits : All Digit x
+  pub digits : AllByRecursion Digit x
 
 -- The numbers of a call, each after exactly one blank.
 pub data Numbers : List ℕ → List ℕ → Type 0 where

@@ -2,8 +2,8 @@
 use Rattle.std.proofs.Common.{◌≡◌, get_or, sym, refl, ap, ◌∙◌, subst, arith}
 use Rattle.std.proofs.lemmas.Result.{err_from_is_err_and}
 use Rattle.expression.specs.Fields.{arithmetic_of}
-use Rattle.expression.specs.Grammar.{factor, sum, term}
-use Rattle.expression.specs.Readings.{Reading, Stopped}
+use Rattle.expression.specs.Grammar.{factor}
+use Rattle.expression.specs.Readings.{Stopped}
 use Rattle.expression.specs.Values.{number_value}
 use Rattle.expression.proofs.Factors.{no_factor, none_begins}
 use Rattle.expression.proofs.InFields.{codes_in_field}
@@ -24,26 +24,26 @@ factor-returns-in-End t c =
     let (here, past) = c.in-End.ensures in
     subst (Stopped factor _ _ _) (sym here) (none_begins _ _ _ c.requires.starts (λ h. absurd (omega arith)))
 
-pub factor-returns-in-err-inner : goal.factor-returns-in-err-inner
-factor-returns-in-err-inner t c =
-    let p = err_from_is_err_and c.from-residual.result c.from-residual.ensures.1 in
+pub factor-returns-in_err-inner-in-Sign : goal.factor-returns-in_err-inner-in-Sign
+factor-returns-in_err-inner-in-Sign t c =
+    let p = err_from_is_err_and c.from_residual.result c.from_residual.ensures.1 in
     let (part, is, _, _) = c.in-Sign.ensures in
     rw (p.1, p.2)
     (brackets_stopped_placed c.args.left c.args.sheet.now c.args.place c.if-left-gt0.true part is c.if-sign-eq40.true
-    c.in-err-inner.field-0.0 c.in-err-inner.ensures)
+    c.in_err-inner-in-Sign.field-0.0 c.in_err-inner-in-Sign.ensures)
 
 pub factor-returns-then-sheet-inner-eq41 : goal.factor-returns-then-sheet-inner-eq41
 factor-returns-then-sheet-inner-eq41 t c =
     let (part, is, _, _) = c.in-Sign.ensures in
     brackets_placed c.args.left c.args.sheet.now c.args.place c.if-left-gt0.true part is c.if-sign-eq40.true
-    (arithmetic_of c.args.field) c.in-ok-inner.inner.end c.requires.few c.in-ok-inner.ensures c.if-inner-sheet.true
+    (arithmetic_of c.args.field) c.in_ok-inner-in-Sign.inner.end c.requires.few c.in_ok-inner-in-Sign.ensures c.if-inner-sheet.true
     c.if-sheet-inner-eq41.true
 
 pub factor-returns-else-inner-sheet : goal.factor-returns-else-inner-sheet
 factor-returns-else-inner-sheet t c =
     let (part, is, _, _) = c.in-Sign.ensures in
     not_closed_placed c.args.left c.args.sheet.now c.args.place c.if-left-gt0.true part is c.if-sign-eq40.true
-    (arithmetic_of c.args.field) c.in-ok-inner.inner.end c.requires.few c.in-ok-inner.ensures
+    (arithmetic_of c.args.field) c.in_ok-inner-in-Sign.inner.end c.requires.few c.in_ok-inner-in-Sign.ensures
     (elim c.else-inner-sheet.branch [
       | factor-else-inner-sheet-via-then-inner-sheet+else-sheet-inner-eq41 w ↦ λ h e. w.if-sheet-inner-eq41.false e
       | factor-else-inner-sheet-via-else-inner-sheet w ↦ λ h e. absurd (omega (arith, w.if-inner-sheet.false, h))
@@ -64,24 +64,24 @@ factor-returns-else-sign-eq40 t c =
     ]))
 
 -- A term.
-pub term-returns-in-err-whole : goal.term-returns-in-err-whole
-term-returns-in-err-whole t c =
-    let p = err_from_is_err_and c.from-residual.result c.from-residual.ensures.1 in
-    rw (p.1, p.2) (no_term c.in-err-whole.ensures)
+pub term-returns-in_err-whole : goal.term-returns-in_err-whole
+term-returns-in_err-whole t c =
+    let p = err_from_is_err_and c.from_residual.result c.from_residual.ensures.1 in
+    rw (p.1, p.2) (no_term c.in_err-whole.ensures)
 
 pub term-loop-whole-init : goal.term-loop-whole-init
-term-loop-whole-init t c = as_term c.in-ok-whole.ensures
+term-loop-whole-init t c = as_term c.in_ok-whole.ensures
 
-pub term-returns-in-err-next : goal.term-returns-in-err-next
-term-returns-in-err-next t c =
-    let p = err_from_is_err_and c.from-residual-in-err-next.result c.from-residual-in-err-next.ensures.1 in
+pub term-returns-in_err-next : goal.term-returns-in_err-next
+term-returns-in_err-next t c =
+    let p = err_from_is_err_and c.from_residual-in_err-next.result c.from_residual-in_err-next.ensures.1 in
     rw (p.1, p.2)
     (joined_stopped by_times (arithmetic_of c.args.field) _ _ _ _ c.requires.few c.loop-whole.invariant c.loop-whole-test.true
-    c.if-sheet-whole-eq42.true c.in-err-next.ensures)
+    c.if-sheet-whole-eq42.true c.in_err-next.ensures)
 
 pub term-product_value-requires : goal.term-product_value-requires
 term-product_value-requires t c =
-    let next = c.in-ok-next.ensures in
+    let next = c.in_ok-next.ensures in
     record {
       a_codes = codes_in_field c.args.field c.loop-whole.invariant.expression c.loop-whole.invariant.value_is;
       b_codes = codes_in_field c.args.field next.expression next.value_is;
@@ -90,27 +90,27 @@ term-product_value-requires t c =
 pub term-loop-whole-preserved : goal.term-loop-whole-preserved
 term-loop-whole-preserved t c =
     joined by_times (arithmetic_of c.args.field) c.args.left c.args.sheet.now c.args.place c.loop-whole.whole.end c.requires.few
-    c.loop-whole.invariant c.loop-whole-test.true c.if-sheet-whole-eq42.true c.in-ok-next.ensures c.product_value.ensures
+    c.loop-whole.invariant c.loop-whole-test.true c.if-sheet-whole-eq42.true c.in_ok-next.ensures c.product_value.ensures
 
 -- A sum.
-pub sum-returns-in-err-whole : goal.sum-returns-in-err-whole
-sum-returns-in-err-whole t c =
-    let p = err_from_is_err_and c.from-residual.result c.from-residual.ensures.1 in
-    rw (p.1, p.2) (no_sum c.in-err-whole.ensures)
+pub sum-returns-in_err-whole : goal.sum-returns-in_err-whole
+sum-returns-in_err-whole t c =
+    let p = err_from_is_err_and c.from_residual.result c.from_residual.ensures.1 in
+    rw (p.1, p.2) (no_sum c.in_err-whole.ensures)
 
 pub sum-loop-whole-init : goal.sum-loop-whole-init
-sum-loop-whole-init t c = as_sum c.in-ok-whole.ensures
+sum-loop-whole-init t c = as_sum c.in_ok-whole.ensures
 
-pub sum-returns-in-err-next : goal.sum-returns-in-err-next
-sum-returns-in-err-next t c =
-    let p = err_from_is_err_and c.from-residual-in-err-next.result c.from-residual-in-err-next.ensures.1 in
+pub sum-returns-in_err-next : goal.sum-returns-in_err-next
+sum-returns-in_err-next t c =
+    let p = err_from_is_err_and c.from_residual-in_err-next.result c.from_residual-in_err-next.ensures.1 in
     rw (p.1, p.2)
     (joined_stopped by_plus (arithmetic_of c.args.field) _ _ _ _ c.requires.few c.loop-whole.invariant c.loop-whole-test.true
-    c.if-sheet-whole-eq43.true c.in-err-next.ensures)
+    c.if-sheet-whole-eq43.true c.in_err-next.ensures)
 
 pub sum-sum_value-requires : goal.sum-sum_value-requires
 sum-sum_value-requires t c =
-    let next = c.in-ok-next.ensures in
+    let next = c.in_ok-next.ensures in
     record {
       a_codes = codes_in_field c.args.field c.loop-whole.invariant.expression c.loop-whole.invariant.value_is;
       b_codes = codes_in_field c.args.field next.expression next.value_is;
@@ -119,4 +119,4 @@ sum-sum_value-requires t c =
 pub sum-loop-whole-preserved : goal.sum-loop-whole-preserved
 sum-loop-whole-preserved t c =
     joined by_plus (arithmetic_of c.args.field) c.args.left c.args.sheet.now c.args.place c.loop-whole.whole.end c.requires.few
-    c.loop-whole.invariant c.loop-whole-test.true c.if-sheet-whole-eq43.true c.in-ok-next.ensures c.sum_value.ensures
+    c.loop-whole.invariant c.loop-whole-test.true c.if-sheet-whole-eq43.true c.in_ok-next.ensures c.sum_value.ensures

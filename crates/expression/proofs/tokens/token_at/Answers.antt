@@ -13,9 +13,9 @@ returns-then-sheet-place-eq122 c = (
 
 pub returns-else-sheet-place-eq122 : goal.returns-else-sheet-place-eq122
 returns-else-sheet-place-eq122 c =
-    let none : c.args.place ≡ c.digits_end.result = omega arith in (
+    let none : c.args.place ≡ c.digits-end.result = omega arith in (
       single_part _ _ c.if-place-sheet.false,
       single _ _ c.if-place-sheet.false,
-      (subst (DigitsTo _ _) (sym none) c.digits_end.ensures).stops (omega arith) c.if-place-sheet.false,
+      (subst (DigitsTo _ _) (sym none) c.digits-end.ensures).stops (omega arith) c.if-place-sheet.false,
       c.if-sheet-place-eq122.false,
     )

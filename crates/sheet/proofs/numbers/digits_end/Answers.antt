@@ -1,7 +1,7 @@
 use Rattle.std.proofs.Common.{sym, subst, arith}
 use Rattle.std.proofs.lemmas.List.Edits.{between_more}
 use Rattle.std.proofs.ByRecursion.{All-push}
-use Rattle.std.specs.List.{AllByRecursion as All}
+use Rattle.std.specs.List.{AllByRecursion}
 use Rattle.expression.specs.Bytes.{Digit}
 use Rattle.sheet.proofs.numbers.digits_end.Goals as goal
 
@@ -10,6 +10,6 @@ loop-end-preserved c = (
   omega arith,
   omega arith,
   omega arith,
-  subst (All Digit) (sym (between_more c.args.sheet.now c.args.from c.loop-end.end 0 c.loop-end.invariant.0 c.loop-end-test.true))
+  subst (AllByRecursion Digit) (sym (between_more c.args.sheet.now c.args.from c.loop-end.end 0 c.loop-end.invariant.0 c.loop-end-test.true))
       (All-push Digit _ _ c.loop-end.invariant.3 (c.if-sheet-end-ge48.true, c.if-sheet-end-le57.true)),
 )
