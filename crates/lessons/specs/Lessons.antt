@@ -1,5 +1,5 @@
 -- The lesson on a rack and the expressions of a sheet, as statements about the definitions.
-use Rattle.std.specs.Prelude.{◌≡◌, ℕ, List, [], ◌∷◌, ◌++◌, take, Some, None, codes, Option}
+use Rattle.std.specs.Prelude.{◌≡◌, ℕ, List, [], ◌∷◌, ◌++◌, take, Some, None, codes}
 use Rattle.algebra.specs.Arithmetics.{modulo}
 use Rattle.algebra.specs.Field.{Arithmetic}
 use Rattle.expression.specs.Bytes.{line_end}

@@ -1,4 +1,4 @@
-use Rattle.std.proofs.Common.{◌≡◌, ℕ, List, [], ◌∷◌, refl, arith, lit≤}
+use Rattle.std.proofs.Common.{[], ◌∷◌, refl, arith, lit≤}
 use Rattle.algebra.specs.Polynomial.{multiply}
 use Rattle.expression.specs.Grammar.{Phrase, a_number, a_power, a_z, factor, in_brackets, one_factor, one_term, plus, sum, times}
 use Rattle.expression.specs.Values.{number, power, sum_of}
