@@ -9,7 +9,7 @@ use Rattle.algebra.specs.Abstract.{Ring, Field, Code}
 use Rattle.algebra.specs.Field.{Arithmetic, FieldLaws}
 use Rattle.algebra.specs.Polynomial.{Below, HasDegree, add, subtract, multiply, IsPolynomial}
 use Rattle.algebra.specs.Polynomial as coded
-use Rattle.algebra.specs.Moduli as coded-moduli
+use Rattle.algebra.specs.Moduli as coded_moduli
 use Rattle.algebra.proofs.Rings.{difference, negative_zero, times_zero}
 use Rattle.algebra.proofs.Series.{Series, rest, ◌∗◌, monomial}
 use Rattle.algebra.proofs.Degrees.{no_zero_divisor}
@@ -142,7 +142,7 @@ module _ (f : Arithmetic) (L : FieldLaws f) where
   same_lifts p q h k = (λ e. ap codes_of e, λ e. same_codes (lift p h) (lift q k) e)
 
   -- The operations agree.
-  pub codes_zero : codes_of (𝓟 𝓒).𝟎 ≡ coded-moduli.nought
+  pub codes_zero : codes_of (𝓟 𝓒).𝟎 ≡ coded_moduli.nought
   unfolding polynomial_ring code_field code_ring
   codes_zero = refl
 
@@ -163,23 +163,23 @@ module _ (f : Arithmetic) (L : FieldLaws f) where
   unfolding polynomial_ring
   codes_product P Q = fun_ext (λ n. series_product n P.0 Q.0)
 
-  series_monomial : (c : Code f.order) (k n : ℕ) → (monomial 𝓒.ring c k n).0 ≡ coded-moduli.monomial c.0 k n
+  series_monomial : (c : Code f.order) (k n : ℕ) → (monomial 𝓒.ring c k n).0 ≡ coded_moduli.monomial c.0 k n
   unfolding code_field code_ring
   series_monomial c zero zero = refl
   series_monomial c zero (suc n) = refl
   series_monomial c (suc k) zero = refl
   series_monomial c (suc k) (suc n) = series_monomial c k n
 
-  pub codes_term : (c : Code f.order) (k : ℕ) → codes_of (term 𝓒.ring c k) ≡ coded-moduli.monomial c.0 k
+  pub codes_term : (c : Code f.order) (k : ℕ) → codes_of (term 𝓒.ring c k) ≡ coded_moduli.monomial c.0 k
   codes_term c k = fun_ext (series_monomial c k)
 
-  pub codes_one : codes_of (𝓟 𝓒).𝟏 ≡ coded-moduli.one
+  pub codes_one : codes_of (𝓟 𝓒).𝟏 ≡ coded_moduli.one
   unfolding polynomial_ring code_field code_ring
   codes_one = fun_ext (series_monomial code_ring.𝟏 0)
 
   pub codes_product_of : (m : ℕ → Poly 𝓒) (n : ℕ)
-      → codes_of (product_of (𝓟 𝓒) m n) ≡ coded-moduli.product_of f (λ i. codes_of (m i)) n
-  unfolding product_of coded-moduli.product_of
+      → codes_of (product_of (𝓟 𝓒) m n) ≡ coded_moduli.product_of f (λ i. codes_of (m i)) n
+  unfolding product_of coded_moduli.product_of
   codes_product_of m zero = codes_one
   codes_product_of m (suc n) =
       codes_product (product_of (𝓟 𝓒) m n) (m n) ∙ ap (λ (p : ℕ → ℕ). multiply f p (codes_of (m n))) (codes_product_of m n)
@@ -252,7 +252,7 @@ module _ (f : Arithmetic) (L : FieldLaws f) where
       codes_sum ((𝓟 𝓒).product u m) ((𝓟 𝓒).product v n)
       ∙ rw (codes_product u m, codes_product v n) refl
 
-  pub coprime_from : (M N : Poly 𝓒) → coded-moduli.Coprime f (codes_of M) (codes_of N) → Coprime (𝓟 𝓒) M N
+  pub coprime_from : (M N : Poly 𝓒) → coded_moduli.Coprime f (codes_of M) (codes_of N) → Coprime (𝓟 𝓒) M N
   coprime_from M N h =
       let u = lift h.left h.left_polynomial in
       let v = lift h.right h.right_polynomial in
@@ -262,7 +262,7 @@ module _ (f : Arithmetic) (L : FieldLaws f) where
         is = same_codes ((𝓟 𝓒).sum ((𝓟 𝓒).product u M) ((𝓟 𝓒).product v N)) (𝓟 𝓒).𝟏 (codes_combination u M v N ∙ h.is ∙ sym codes_one);
       }
 
-  pub coded_coprime_from : (M N : Poly 𝓒) → Coprime (𝓟 𝓒) M N → coded-moduli.Coprime f (codes_of M) (codes_of N)
+  pub coded_coprime_from : (M N : Poly 𝓒) → Coprime (𝓟 𝓒) M N → coded_moduli.Coprime f (codes_of M) (codes_of N)
   coded_coprime_from M N h =
       record {
         left = codes_of h.left;

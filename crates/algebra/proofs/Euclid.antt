@@ -165,14 +165,14 @@ module _ {E : Type 0} (𝓕 : Field E) where
 
   -- A state of the extended algorithm on M, of degree D, and Y: two remainders that follow one another, and the factors
   -- of Y in them. The factors of M are known to exist and never needed.
-  pub record Run (D : ℕ) (M Y previous remainder t-previous t : Poly 𝓕) : Type 0 where
+  pub record Run (D : ℕ) (M Y previous remainder t_previous t : Poly 𝓕) : Type 0 where
     pub s_previous : Poly 𝓕
     pub s : Poly 𝓕
-    pub previous_is : previous ≡ s_previous · M ⊕ t-previous · Y
+    pub previous_is : previous ≡ s_previous · M ⊕ t_previous · Y
     pub remainder_is : remainder ≡ s · M ⊕ t · Y
     pub t_degree : ℕ
     pub t_has : Degree 𝓕 t_degree t
-    pub t_previous_under : Under 𝓕 t_degree t-previous
+    pub t_previous_under : Under 𝓕 t_degree t_previous
     pub previous_degree : ℕ
     pub previous_has : Degree 𝓕 previous_degree previous
     pub remainder_under : Under 𝓕 previous_degree remainder

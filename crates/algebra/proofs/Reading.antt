@@ -5,7 +5,7 @@ use Rattle.algebra.specs.Field.{Arithmetic, FieldLaws}
 use Rattle.algebra.specs.Polynomial.{Below, HasDegree, add, subtract, multiply, IsPolynomial, Divides, ShareFactor, IsDivision}
 use Rattle.algebra.specs.Moduli.{monomial, one, nought, Congruent, Coprime, product_of, PairwiseCoprime}
 use Rattle.algebra.proofs.Polynomials.{Poly, 𝓟, term}
-use Rattle.algebra.proofs.Euclid as theory-euclid
+use Rattle.algebra.proofs.Euclid as theory_euclid
 use Rattle.algebra.proofs.Reconstruction as theory
 use Rattle.algebra.proofs.Codes.{𝓒, code_field, lift, codes_of, codes_polynomial, same_codes, codes_one, codes_term, codes_product, codes_combination, under_from, below_from, degree_from, has_degree_from, share_factor_from, coded_coprime_from}
 use Rattle.algebra.proofs.Coefficients.{lift_add, lift_subtract, lift_multiply, lift_one, lift_nought, add_polynomial, subtract_polynomial, multiply_polynomial, one_polynomial, nought_polynomial, multiply_subtract, degree_one_only}
@@ -23,16 +23,16 @@ module _ (f : Arithmetic) (L : FieldLaws f) where
 
   -- A state of the extended algorithm on M, of degree D, and Y: two remainders that follow one another, and the factors of
   -- Y in them. It is made by `euclid_start` and `euclid_step` and read by what follows them.
-  pub record Euclidean (D : ℕ) (M Y previous remainder t-previous t : ℕ → ℕ) : Type 0 where
+  pub record Euclidean (D : ℕ) (M Y previous remainder t_previous t : ℕ → ℕ) : Type 0 where
     pub M_polynomial : Is M
     pub Y_polynomial : Is Y
     pub previous_polynomial : Is previous
     pub remainder_polynomial : Is remainder
-    pub t_previous_polynomial : Is t-previous
+    pub t_previous_polynomial : Is t_previous
     pub t_polynomial : Is t
     pub run :
-        theory-euclid.Run (𝓒 f L) D (up M M_polynomial) (up Y Y_polynomial) (up previous previous_polynomial)
-        (up remainder remainder_polynomial) (up t-previous t_previous_polynomial) (up t t_polynomial)
+        theory_euclid.Run (𝓒 f L) D (up M M_polynomial) (up Y Y_polynomial) (up previous previous_polynomial)
+        (up remainder remainder_polynomial) (up t_previous t_previous_polynomial) (up t t_polynomial)
 
   pub euclid_start : (D : ℕ) (M Y : ℕ → ℕ) → Is M → Is Y → HasDegree D M → Below D Y → Euclidean D M Y M Y nought one
   euclid_start D M Y hM hY h k =
@@ -45,7 +45,7 @@ module _ (f : Arithmetic) (L : FieldLaws f) where
         t_polynomial = one_polynomial f L;
         run =
             rw (lift_nought f L (nought_polynomial f L), lift_one f L (one_polynomial f L))
-            (theory-euclid.run_start (𝓒 f L) D (up M hM) (up Y hY) (degree_from f L D (up M hM) h) (under_from f L D (up Y hY) k));
+            (theory_euclid.run_start (𝓒 f L) D (up M hM) (up Y hY) (degree_from f L D (up M hM) h) (under_from f L D (up Y hY) k));
       }
 
   -- One step: the previous remainder divided by the present one, and t-previous - q·t.
@@ -68,7 +68,7 @@ module _ (f : Arithmetic) (L : FieldLaws f) where
         t_polynomial = hnew;
         run =
             rw (lift_subtract f L t₀ (multiply f q t) ht₀ hqt hnew, lift_multiply f L q t hq ht hqt)
-            (theory-euclid.run_step (𝓒 f L) D e (up M I.M_polynomial) (up Y I.Y_polynomial) (up p I.previous_polynomial) (up r hr)
+            (theory_euclid.run_step (𝓒 f L) D e (up M I.M_polynomial) (up Y I.Y_polynomial) (up p I.previous_polynomial) (up r hr)
             (up t₀ ht₀) (up t ht) (up q hq) (up n hn) I.run (degree_from f L e (up r hr) h) (under_from f L e (up n hn) V.remainder_below)
             (division_up f L e p r q n I.previous_polynomial hr V));
       }
@@ -107,7 +107,7 @@ module _ (f : Arithmetic) (L : FieldLaws f) where
   pub euclid_shared : (D d : ℕ) (M Y p t₀ t : ℕ → ℕ) → Euclidean D M Y p nought t₀ t → HasDegree d p → 1 ≤ d → ShareFactor f M Y
   euclid_shared D d M Y p t₀ t I h l =
       share_factor_from f L (up M I.M_polynomial) (up Y I.Y_polynomial)
-      (theory-euclid.run_shared (𝓒 f L) D d (up M I.M_polynomial) (up Y I.Y_polynomial) (up p I.previous_polynomial)
+      (theory_euclid.run_shared (𝓒 f L) D d (up M I.M_polynomial) (up Y I.Y_polynomial) (up p I.previous_polynomial)
       (up t₀ I.t_previous_polynomial) (up t I.t_polynomial)
       (rw (lift_nought f L I.remainder_polynomial) at I.run)
       (degree_from f L d (up p I.previous_polynomial) h) l)
@@ -120,7 +120,7 @@ module _ (f : Arithmetic) (L : FieldLaws f) where
       let C = term (𝓒 f L).ring c 0 in
       ap (λ (m : ℕ → ℕ). multiply f m p) (sym (codes_term f L c 0))
       ∙ sym (codes_product f L C (up p hp))
-      ∙ ap (codes_of f L) (theory-euclid.constant_inverse (𝓒 f L) (up p hp) (degree_from f L 0 (up p hp) h))
+      ∙ ap (codes_of f L) (theory_euclid.constant_inverse (𝓒 f L) (up p hp) (degree_from f L 0 (up p hp) h))
       ∙ codes_one f L
 
   -- If c·previous = 1, then c·t-previous is the inverse of Y modulo M.
@@ -135,7 +135,7 @@ module _ (f : Arithmetic) (L : FieldLaws f) where
       let hcty = multiply_polynomial f L (multiply f c t₀) Y hct hY in
       congruent_down f L M (multiply f (multiply f c t₀) Y) one hM hcty (one_polynomial f L)
       (rw (lift_multiply f L (multiply f c t₀) Y hct hY hcty, lift_multiply f L c t₀ hc ht₀ hct, lift_one f L (one_polynomial f L))
-      (theory-euclid.run_inverse (𝓒 f L) D (up M hM) (up Y hY) (up p hp) (up r I.remainder_polynomial) (up t₀ ht₀) (up t I.t_polynomial) (up c hc)
+      (theory_euclid.run_inverse (𝓒 f L) D (up M hM) (up Y hY) (up p hp) (up r I.remainder_polynomial) (up t₀ ht₀) (up t I.t_polynomial) (up c hc)
       I.run (same_codes f L _ _ (codes_product f L (up c hc) (up p hp) ∙ e ∙ sym (codes_one f L)))))
 
   -- A remainder that is a constant other than 0: M and Y are coprime.
@@ -144,9 +144,9 @@ module _ (f : Arithmetic) (L : FieldLaws f) where
       let hp = I.previous_polynomial in
       let C = term (𝓒 f L).ring ((𝓒 f L).inverse ((up p hp).0 0)) 0 in
       coded_coprime_from f L (up M I.M_polynomial) (up Y I.Y_polynomial)
-      (theory-euclid.run_coprime (𝓒 f L) D (up M I.M_polynomial) (up Y I.Y_polynomial) (up p hp) (up r I.remainder_polynomial)
+      (theory_euclid.run_coprime (𝓒 f L) D (up M I.M_polynomial) (up Y I.Y_polynomial) (up p hp) (up r I.remainder_polynomial)
       (up t₀ I.t_previous_polynomial) (up t I.t_polynomial) C I.run
-      (theory-euclid.constant_inverse (𝓒 f L) (up p hp) (degree_from f L 0 (up p hp) h)))
+      (theory_euclid.constant_inverse (𝓒 f L) (up p hp) (degree_from f L 0 (up p hp) h)))
 
   -- Reconstruction. M has degree D; a is below K; the word Y agrees with a modulo M but for a factor Λ of degree e with
   -- 2e + K ≤ D; r = s·M + t·Y is the first remainder of degree less than (D + K)/2, so that deg t = D - n where n, the degree

@@ -6,9 +6,9 @@ use Rattle.algebra.specs.Polynomial.{Below, HasDegree, add, subtract, multiply, 
 use Rattle.algebra.specs.Moduli.{monomial, one, nought, Congruent, Coprime, product_of, total, PairwiseCoprime}
 use Rattle.algebra.proofs.Rings.{difference}
 use Rattle.algebra.proofs.Polynomials.{Poly, 𝓟}
-use Rattle.algebra.proofs.Division as theory-division
+use Rattle.algebra.proofs.Division as theory_division
 use Rattle.algebra.proofs.Modulo as theory
-use Rattle.algebra.proofs.Euclid as theory-euclid
+use Rattle.algebra.proofs.Euclid as theory_euclid
 use Rattle.algebra.proofs.Codes.{𝓒, lift, codes_of, codes_polynomial, same_codes, codes_one, codes_sum, codes_difference, codes_product, codes_combination, codes_product_of, under_from, below_from, degree_from, has_degree_from, divides_from, coded_divides_from, shared_from, share_factor_from, coprime_from, coded_coprime_from}
 use Rattle.algebra.proofs.Coefficients.{lift_add, lift_multiply, lift_one, add_polynomial, subtract_polynomial, multiply_polynomial, one_polynomial, nought_polynomial, add_nought, nought_add, nought_multiply, nought_below, subtract_is, subtract_nought, below_subtract, below_more, below_earlier, below_multiply, monomial_polynomial, monomial_from, monomial_off, subtract_add, add_comm, add_assoc, add_multiply, multiply_comm, multiply_one}
 
@@ -28,7 +28,7 @@ module _ (f : Arithmetic) (L : FieldLaws f) where
 
   pub divide : (d : ℕ) (a m : ℕ → ℕ) → Is a → Is m → HasDegree d m → (q : ℕ → ℕ) × (r : ℕ → ℕ) × IsDivision f d a m q r
   divide d a m ha hm h =
-      let D = theory-division.divide (𝓒 f L) d (up m hm) (up a ha) (degree_from f L d (up m hm) h) in (
+      let D = theory_division.divide (𝓒 f L) d (up m hm) (up a ha) (degree_from f L d (up m hm) h) in (
         codes_of f L D.quotient,
         codes_of f L D.remainder,
         record {
@@ -55,7 +55,7 @@ module _ (f : Arithmetic) (L : FieldLaws f) where
       let R = up r D.remainder_polynomial in
       let R' = up r' D'.remainder_polynomial in
       let same =
-      theory-division.divide_unique (𝓒 f L) d (up m hm) (up q D.quotient_polynomial) R (up q' D'.quotient_polynomial) R'
+      theory_division.divide_unique (𝓒 f L) d (up m hm) (up q D.quotient_polynomial) R (up q' D'.quotient_polynomial) R'
       (degree_from f L d (up m hm) h) (under_from f L d R D.remainder_below) (under_from f L d R' D'.remainder_below)
       (sym (division_up d a m q r ha hm D) ∙ division_up d a m q' r' ha hm D') in
       (ap (codes_of f L) same.0, ap (codes_of f L) same.1)
@@ -120,7 +120,7 @@ module _ (f : Arithmetic) (L : FieldLaws f) where
       let Q = up q D.quotient_polynomial in
       let R = up r D.remainder_polynomial in
       below_from f L k Q
-      (theory-division.quotient_under (𝓒 f L) k d (up a ha) (up m hm) Q R (degree_from f L d (up m hm) h)
+      (theory_division.quotient_under (𝓒 f L) k d (up a ha) (up m hm) Q R (degree_from f L d (up m hm) h)
       (under_from f L (d + k) (up a ha) g) (under_from f L d R D.remainder_below) (division_up d a m q r ha hm D))
 
   pub quotient_degree : (n d : ℕ) (a m q r : ℕ → ℕ) → Is m → HasDegree d m → IsDivision f d a m q r → HasDegree n a → d ≤ n → HasDegree (n - d) q
@@ -129,7 +129,7 @@ module _ (f : Arithmetic) (L : FieldLaws f) where
       let Q = up q D.quotient_polynomial in
       let R = up r D.remainder_polynomial in
       has_degree_from f L (n - d) Q
-      (theory-division.quotient_degree (𝓒 f L) n d (up a ha) (up m hm) Q R (degree_from f L n (up a ha) g)
+      (theory_division.quotient_degree (𝓒 f L) n d (up a ha) (up m hm) Q R (degree_from f L n (up a ha) g)
       (degree_from f L d (up m hm) h) l (under_from f L d R D.remainder_below) (division_up d a m q r ha hm D))
 
   -- Divisibility. What it says of lifted polynomials, and back.
@@ -342,14 +342,14 @@ module _ (f : Arithmetic) (L : FieldLaws f) where
   -- Coprimality.
   pub shared_or_coprime : (m n : ℕ → ℕ) → Is m → Is n → ShareFactor f m n ⊎ Coprime f m n
   shared_or_coprime m n hm hn =
-      elim (theory-euclid.shared_or_coprime (𝓒 f L) (up m hm) (up n hn)) [
+      elim (theory_euclid.shared_or_coprime (𝓒 f L) (up m hm) (up n hn)) [
         | inl s ↦ inl (share_factor_from f L (up m hm) (up n hn) s)
         | inr c ↦ inr (coded_coprime_from f L (up m hm) (up n hn) c)
       ]
 
   pub coprime_not_shared : (m n : ℕ → ℕ) → Is m → Is n → Coprime f m n → ¬ (ShareFactor f m n)
   coprime_not_shared m n hm hn c s =
-      theory-euclid.coprime_not_shared (𝓒 f L) (up m hm) (up n hn) (coprime_from f L (up m hm) (up n hn) c) (shared_from f L (up m hm) (up n hn) s)
+      theory_euclid.coprime_not_shared (𝓒 f L) (up m hm) (up n hn) (coprime_from f L (up m hm) (up n hn) c) (shared_from f L (up m hm) (up n hn) s)
 
   pub not_shared_coprime : (m n : ℕ → ℕ) → Is m → Is n → ¬ (ShareFactor f m n) → Coprime f m n
   not_shared_coprime m n hm hn h =

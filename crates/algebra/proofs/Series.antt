@@ -105,7 +105,7 @@ module _ {E : Type 0} (𝓡 : Ring E) where
   pub commutes : (a b : Series E) → a ∗ b ≡ b ∗ a
   commutes a b =
       let a_one : a ∗ unit ≡ a = fun_ext (λ n. of_unit n a) in
-      let b-one : b ∗ unit ≡ b = fun_ext (λ n. of_unit n b) in
+      let b_one : b ∗ unit ≡ b = fun_ext (λ n. of_unit n b) in
       let swap : a ∗ (b ∗ unit) ≡ b ∗ (a ∗ unit) = fun_ext (λ n. exchange n a b unit) in
       cc
 

@@ -107,15 +107,15 @@ module _ (s : Scheme) where
       → request_at load.before i ≡ reads channel slot old → request_at load.done i ≡ reads channel slot new
       → (entry_at load.done i).outcome ≡ Some outcome
       → ReadAs s a slot old new outcome → Accepted load i channel slot a ⊎ GaveNone s load i slot a
-  told_ways load i channel slot old new a (Ok (Message found)) asks gives is (within, margin-is, wrong-is) =
-      let same : found ≡ found_for s a new = rw (← margin-is, ← wrong-is) in
+  told_ways load i channel slot old new a (Ok (Message found)) asks gives is (within, margin_is, wrong_is) =
+      let same : found ≡ found_for s a new = rw (← margin_is, ← wrong_is) in
       inl (record { buffer = new; within = within; answer = is ∙ ap (λ (x : Found). Some (Ok (Message x))) same; filled = gives })
   told_ways load i channel slot old new a (Ok Done) asks gives is says = absurd says
   told_ways load i channel slot old new a (Ok (Margin m)) asks gives is says = absurd says
-  told_ways load i channel slot old new a (Err fault) asks gives is (same, (cause, fault-is, says)) =
+  told_ways load i channel slot old new a (Err fault) asks gives is (same, (cause, fault_is, says)) =
       inr (record {
         cause = cause;
-        refused = is ∙ ap (λ (x : RackFault). Some (Err x)) fault-is;
+        refused = is ∙ ap (λ (x : RackFault). Some (Err x)) fault_is;
         says = says;
         unfilled = gives ∙ ap (reads channel slot) same ∙ sym asks;
       })

@@ -183,7 +183,7 @@ pub not_closed : (f : Arithmetic) (n : ℕ) (s : List ℕ) (i j : ℕ) {codes : 
     → Reading sum sum f n s (i + 1) j codes → (j < length s → get_or s j 0 ≡ right_bracket → ⊥) → Stopped factor (suc n) s i j
 not_closed f n s i j few e r none =
     let p = passes r.phrase (omega arith) in
-    let open-still : eqb n most_brackets ≡ false = grind (arith, nat_tests) in
+    let open_still : eqb n most_brackets ≡ false = grind (arith, nat_tests) in
     record {
       more = omega (arith, r.more);
       within = r.within;
@@ -199,7 +199,7 @@ not_closed f n s i j few e r none =
               | inl x ↦ absurd (none h x)
               | inr x ↦
                   one_more n s (i + 1) j _ (omega (arith, r.more)) h p.is
-                  ∙ (ap (step (inside n p.spot)) x ∙ (by_end n p.spot p.is_whole ∙ ap (λ b. cond b ended broken) open-still))
+                  ∙ (ap (step (inside n p.spot)) x ∙ (by_end n p.spot p.is_whole ∙ ap (λ b. cond b ended broken) open_still))
             ]
             | inr x ↦ x
           ];

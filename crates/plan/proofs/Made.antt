@@ -37,7 +37,7 @@ module _ (f : Arithmetic) (k : ℕ) (codes : List ℕ) (n : ℕ) (whole : n ≡ 
   pub accepted : IsShaped k codes → AreModuli (handed_in f k codes) → word_length (handed_in f k codes) ≤ most_total
       → ((i j : ℕ) → i < j → j < n → ¬ (Clash (handed_in f k codes) i j)) → Accepted f k codes
   accepted shaped ok short apart =
-      let positions-are = handed_positions f k codes in
+      let positions_are = handed_positions f k codes in
       record {
         shaped = shaped;
         lawful =

@@ -128,8 +128,8 @@ module _ (f : Arithmetic) (L : FieldLaws f) where
       let E = R.holds in
       elim (nought_or_degree f L (coefficients e.current) E.current_polynomial) [
         | inl z ↦
-            let zero-divisor : Below 0 (coefficients e.current) = λ i b. ap (λ (x : ℕ → ℕ). x i) z in
-            omega (arith, significant_none q nq (V.by_zero zero-divisor).0 sq)
+            let zero_divisor : Below 0 (coefficients e.current) = λ i b. ap (λ (x : ℕ → ℕ). x i) z in
+            omega (arith, significant_none q nq (V.by_zero zero_divisor).0 sq)
         | inr u ↦
             let less = degree_less u.0 E.previous_degree (coefficients e.current) u.1 E.current_below in
             let hq =

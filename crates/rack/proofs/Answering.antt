@@ -39,8 +39,8 @@ account_used r channel slot e =
 module _ (s : Scheme) (account shown_account : Account) (same : shown_account ≡ account) (slot : ℕ) (before : List ℕ) where
   pub reading_found : (reading : Reading) (buffer : List ℕ) (found : Found) → SlotRead s account (Ok reading) → buffer ≡ message_of s reading
       → found.margin ≡ reading.margin → found.wrong ≡ reading.wrong → ReadAs s shown_account slot before buffer (Ok (Message found))
-  reading_found reading buffer found answered filled margin-is wrong-is =
-      rw (same, filled, margin-is, wrong-is) answered
+  reading_found reading buffer found answered filled margin_is wrong_is =
+      rw (same, filled, margin_is, wrong_is) answered
 
   pub reading_refused : (fault : SlotFault) → SlotRead s account (Err fault) → ReadAs s shown_account slot before before (Err (Slot slot fault))
   reading_refused fault answered =

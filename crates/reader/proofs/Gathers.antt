@@ -98,9 +98,9 @@ module _ (s : Scheme) (L : FieldLaws s.arithmetic) (residues marks : List ℕ) w
   -- The test of what stands at position i tells whether it is kept.
   pub kept_told : (i : ℕ) (ys ms : List ℕ) (told answer : Bool) → ys ≡ part s residues i → ms ≡ modulus s i
       → told ≡ usable f.order (get_or marks i 0) ys ms → told ≡ answer → keep i ≡ answer
-  kept_told i ys ms told answer y-is m-is told_is e =
-      ap (λ (y : List ℕ). usable f.order (get_or marks i 0) y (modulus s i)) (sym y-is)
-      ∙ ap (λ (m : List ℕ). usable f.order (get_or marks i 0) ys m) (sym m-is) ∙ sym told_is ∙ e
+  kept_told i ys ms told answer y_is m_is told_is e =
+      ap (λ (y : List ℕ). usable f.order (get_or marks i 0) y (modulus s i)) (sym y_is)
+      ∙ ap (λ (m : List ℕ). usable f.order (get_or marks i 0) ys m) (sym m_is) ∙ sym told_is ∙ e
 
   chosen_polynomial : (i : ℕ) → IsPolynomial f (chosen keep m i)
   chosen_polynomial i = go (keep i) (kept_parts i)
@@ -146,7 +146,7 @@ module _ (s : Scheme) (L : FieldLaws s.arithmetic) (residues marks : List ℕ) w
       })
 
   module _ (n : ℕ) (l : n < positions s) (k : keep n ≡ true) (j j' : Joined) (ms ys : List ℕ) (G : GatheredTo s residues marks n j) (J : JoinedBy f ms ys j j')
-      (same_modulus : coefficients ms ≡ m n) (same-part : ys ≡ part s residues n) (long : length ys ≡ degree s n) where
+      (same_modulus : coefficients ms ≡ m n) (same_part : ys ≡ part s residues n) (long : length ys ≡ degree s n) where
     chosen_here : chosen keep m n ≡ m n
     chosen_here = cond-true (keep n) (m n) one k
 
@@ -165,7 +165,7 @@ module _ (s : Scheme) (L : FieldLaws s.arithmetic) (residues marks : List ℕ) w
 
     new : IsScheme s → Congruent f (m n) (coefficients j'.value) (coefficients (part s residues n))
     new h =
-        subst (λ (y : List ℕ). Congruent f (m n) (coefficients j'.value) (coefficients y)) same-part
+        subst (λ (y : List ℕ). Congruent f (m n) (coefficients j'.value) (coefficients y)) same_part
         (subst (λ (x : ℕ → ℕ). Congruent f x (coefficients j'.value) (coefficients ys)) same_modulus
         (J.new (rw (same_modulus, G.product_is) (apart h))))
 

@@ -86,15 +86,15 @@ module _ (s : Scheme) where
       omega (arith, over_more (λ j. charge s message j (account j)) i, z ∙ ap (λ (a : List ℕ). charge s a i (account i)) y)
 
   -- What a position loses, as the test of its mark tells it.
-  module _ (residues marks : List ℕ) (i : ℕ) (gone : Bool) (gone-is : gone ≡ eqb (get_or marks i 0) 0) where
+  module _ (residues marks : List ℕ) (i : ℕ) (gone : Bool) (gone_is : gone ≡ eqb (get_or marks i 0) 0) where
     abbrev part : List ℕ
     part = take (degree s i) (drop (start s i) residues)
 
     absent : gone ≡ true → received s residues marks i ≡ None
-    absent u = cond-true (eqb (get_or marks i 0) 0) None (Some part) (sym gone-is ∙ u)
+    absent u = cond-true (eqb (get_or marks i 0) 0) None (Some part) (sym gone_is ∙ u)
 
     present : gone ≡ false → received s residues marks i ≡ Some part
-    present u = cond-false (eqb (get_or marks i 0) 0) None (Some part) (sym gone-is ∙ u)
+    present u = cond-false (eqb (get_or marks i 0) 0) None (Some part) (sym gone_is ∙ u)
 
     pub lost_missing : gone ≡ true → lost s i (received s residues marks i) ≡ degree s i
     lost_missing u = ap (lost s i) (absent u)

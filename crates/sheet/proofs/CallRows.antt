@@ -54,7 +54,7 @@ lost_after {least} {most} {n} {s} {i} {j} {p} {ns} row e lost =
       ns = ns ++ lost.ns;
       before = rows row lost.before;
       wants = elim lost.wants [
-        | inl (few, is, no-blank) ↦ inl (omega arith, is, no-blank)
+        | inl (few, is, no_blank) ↦ inl (omega arith, is, no_blank)
         | inr (few, is, no_digit) ↦ inr (omega arith, is, no_digit)
       ];
     }
@@ -66,7 +66,7 @@ more_wanted l h lost = record {
   ns = lost.ns;
   before = lost.before;
   wants = elim lost.wants [
-    | inl (few, is, no-blank) ↦ inl (omega arith, is, no-blank)
+    | inl (few, is, no_blank) ↦ inl (omega arith, is, no_blank)
     | inr (few, is, no_digit) ↦ inr (omega arith, is, no_digit)
   ];
 }
@@ -78,7 +78,7 @@ wanting {j = j} {ns = ns} row few fewer lost = record {
   j = j;
   ns = ns;
   before = row;
-  wants = elim lost [ inl (is, no-blank) ↦ inl (few, is, no-blank) | inr (is, no_digit) ↦ inr (fewer, is, no_digit) ];
+  wants = elim lost [ inl (is, no_blank) ↦ inl (few, is, no_blank) | inr (is, no_digit) ↦ inr (fewer, is, no_digit) ];
 }
 
 -- A number that is wanting though its blank is there.
@@ -88,7 +88,7 @@ wanting_digit {j = j} {ns = ns} row fewer h e lost = record {
   j = j;
   ns = ns;
   before = row;
-  wants = elim lost [ inl (is, (w, no-blank)) ↦ absurd (no-blank h e) | inr (is, no_digit) ↦ inr (fewer, is, no_digit) ];
+  wants = elim lost [ inl (is, (w, no_blank)) ↦ absurd (no_blank h e) | inr (is, no_digit) ↦ inr (fewer, is, no_digit) ];
 }
 
 -- Where a call's first two numbers are wanting.

@@ -77,8 +77,8 @@ zeros : (k : ℕ) → (t : List ℕ) × Numbers t (replicate k 0)
 zeros zero = ([], no_numbers)
 zeros (suc k) =
     let (t, numbers) = zeros k in
-    let zero-digit : IsCallNumber (first_digit ∷ []) = record { some = lit≤ tt; few = lit≤ tt; digits = ((lit≤ tt, lit≤ tt), tt) } in
-    (blank_byte ∷ first_digit ∷ t, number_more zero-digit numbers)
+    let zero_digit : IsCallNumber (first_digit ∷ []) = record { some = lit≤ tt; few = lit≤ tt; digits = ((lit≤ tt, lit≤ tt), tt) } in
+    (blank_byte ∷ first_digit ∷ t, number_more zero_digit numbers)
 
 -- Not too many numbers can be completed to a line.
 pub completes : (name : CallName) {x : List ℕ} {ns : List ℕ} → Numbers x ns → length ns ≤ most_numbers name
@@ -121,13 +121,13 @@ module _ (name : CallName) (s : List ℕ) (i w j : ℕ) (ns : List ℕ) (named :
   -- The line stops after its numbers.
   stops_after : length ns ≤ most_numbers name → (j < length s → get_or s j 0 ≡ blank_byte → length ns < most_numbers name → ⊥)
       → (j < length s → get_or s j 0 ≡ line_end → least_numbers name ≤ length ns → ⊥) → Lost AnyCallLine s i j
-  stops_after few no-blank no_end =
+  stops_after few no_blank no_end =
       let (a, b) = row_length row in
       let e = named.end in
       let (room, ran, more) = walked name row few in
       let (t, line) = completes name (row_numbers row) few in
       lost_by_run s i j (after name (length ns) room) (omega arith) b (named_runs (after name (length ns) room) ran) (λ x. x)
-      (λ h. stuck name (length ns) room (get_or s j 0) (λ lt. more lt h) (no-blank h) (no_end h)) t
+      (λ h. stuck name (length ns) room (get_or s j 0) (λ lt. more lt h) (no_blank h) (no_end h)) t
       (named_begins [] t (subst (λ y. AnyCallLine (word name ++ (y ++ t))) (sym (append-nil (between w j s))) line))
 
   -- The line stops after the blank that follows its numbers.
@@ -159,10 +159,10 @@ line_cut name {s} {i} {w} {p} named lost = go lost.wants
   where
     go : ((length lost.ns < least_numbers name) × (p ≡ lost.j) × NoBlank s lost.j) ⊎ ((length lost.ns < most_numbers name) × (p ≡ lost.j + 1) × NoDigit s lost.j)
         → Lost AnyCallLine s i p
-    go (inl (few, is, (within, no-blank))) =
+    go (inl (few, is, (within, no_blank))) =
         let lm = least_most name in
         subst (Lost AnyCallLine s i) (sym is)
-        (stops_after name s i w lost.j lost.ns named lost.before (omega arith) (λ h b _. no-blank h b) (λ h b low. omega arith))
+        (stops_after name s i w lost.j lost.ns named lost.before (omega arith) (λ h b _. no_blank h b) (λ h b low. omega arith))
     go (inr (few, is, (h, blank, none))) =
         subst (Lost AnyCallLine s i) (sym is) (stops_at_blank name s i w lost.j lost.ns named lost.before few h blank none)
 

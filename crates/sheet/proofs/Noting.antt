@@ -43,11 +43,11 @@ module _ (f : Arithmetic) where
 
   pub noted_more : (line at : ℕ) (es : List Expression) (e : Expression) (v : Value) (a b c : Moduli) → at ≡ line + length es → v ≡ value f e
       → Noted f line es a b → Keeps at v b c → Noted f line (es ++ e ∷ []) a c
-  noted_more line at es e v a b c is_at is-v n k = record {
+  noted_more line at es e v a b c is_at is_v n k = record {
     codes_are = k.codes_are ∙ (ap (λ x. x ++ codes_in v) n.codes_are
-        ∙ (ap (λ w. (vec_items a.codes ++ all_codes es) ++ codes_in w) is-v ∙ flat_map_more (λ e. codes_in (value f e)) (vec_items a.codes) es e));
+        ∙ (ap (λ w. (vec_items a.codes ++ all_codes es) ++ codes_in w) is_v ∙ flat_map_more (λ e. codes_in (value f e)) (vec_items a.codes) es e));
     bad_is = k.bad_is ∙ (ap (λ x. option_or x (line_unless v at None)) n.bad_is
-        ∙ (ap (λ w. option_or (option_or a.bad (first_without f line es None)) (line_unless w at None)) is-v
+        ∙ (ap (λ w. option_or (option_or a.bad (first_without f line es None)) (line_unless w at None)) is_v
         ∙ (ap (λ m. option_or (option_or a.bad (first_without f line es None)) (line_unless (value f e) m None)) is_at
         ∙ (or_assoc a.bad (first_without f line es None) (line_unless (value f e) (line + length es) None) ∙ ap (option_or a.bad) (sym (first_push line es e))))));
   }

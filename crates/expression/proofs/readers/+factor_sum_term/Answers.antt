@@ -52,7 +52,7 @@ factor-returns-else-inner-sheet t c =
 -- A sign that opens no bracket, or one bracket too many.
 pub factor-returns-else-sign-eq40 : goal.factor-returns-else-sign-eq40
 factor-returns-else-sign-eq40 t c =
-    let (part, is, no_digit, no-letter) = c.in-Sign.ensures in
+    let (part, is, no_digit, no_letter) = c.in-Sign.ensures in
     subst (Stopped factor _ _ _) (sym part.here)
     (none_begins _ _ _ c.requires.starts
     (λ h. elim c.else-sign-eq40.branch [
@@ -60,7 +60,7 @@ factor-returns-else-sign-eq40 t c =
           let none : c.args.left ≡ 0 = omega (arith, w.if-left-gt0.false) in
           let byte = sign_byte is w.if-sign-eq40.true in
           rw (none, byte) refl
-      | factor-else-sign-eq40-via-else-sign-eq40 w ↦ no_factor _ _ no_digit no-letter (λ e. w.if-sign-eq40.false (ap (λ x. get_or x 0 0) is ∙ e))
+      | factor-else-sign-eq40-via-else-sign-eq40 w ↦ no_factor _ _ no_digit no_letter (λ e. w.if-sign-eq40.false (ap (λ x. get_or x 0 0) is ∙ e))
     ]))
 
 -- A term.

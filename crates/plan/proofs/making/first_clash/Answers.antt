@@ -66,14 +66,14 @@ returns-after-pairs g c =
 pub returns-then-not-coprime : goal.returns-then-not-coprime
 returns-then-not-coprime g c =
     let f = g.F.Field.arithmetic in
-    let positions-are = handed_positions f c.args.carriers c.args.codes.now in
+    let positions_are = handed_positions f c.args.carriers c.args.codes.now in
     record {
       ordered = omega (arith, c.loop-j.auto.j);
-      place = omega (arith, positions-are, c.requires.whole, c.loop-j-test.true);
+      place = omega (arith, positions_are, c.requires.whole, c.loop-j-test.true);
       clash =
           clash_found f c.args.carriers c.args.codes.now c.args.n c.requires.whole c.pairs.i c.loop-j.j
           c.modulus_at.result.now c.modulus_at-in-loop-j.result.now c.pairs-test.true c.loop-j-test.true
           c.modulus_at.ensures.value c.modulus_at-in-loop-j.ensures.value c.if-not-coprime.ensures;
-      rows_before = λ a b h k l. c.pairs.invariant.1 a b h k (omega (arith, positions-are, c.requires.whole));
+      rows_before = λ a b h k l. c.pairs.invariant.1 a b h k (omega (arith, positions_are, c.requires.whole));
       before_in_row = c.loop-j.invariant.1;
     }

@@ -42,8 +42,8 @@ multiply-requires g c =
     let same : length m - 1 ≡ length y = omega (arith, pair.long) in
     let gap = c.remainder_of-gap.result in
     let inverse = c.inverse_modulo-inverse.result in
-    let gap-long : length gap ≡ 65 = search rules in
-    let inverse-long : length inverse ≡ 65 = search rules in
+    let gap_long : length gap ≡ 65 = search rules in
+    let inverse_long : length inverse ≡ 65 = search rules in
     let room : length y ≤ 65 = omega (arith, pair.short, pair.long) in
     record {
       fits =
@@ -71,8 +71,8 @@ returns g c =
     let room : length y ≤ 65 = omega (arith, pair.short, pair.long) in
     let gap = c.remainder_of-gap.result in
     let inverse = c.inverse_modulo-inverse.result in
-    let gap-long : length gap ≡ 65 = search rules in
-    let inverse-long : length inverse ≡ 65 = search rules in
+    let gap_long : length gap ≡ 65 = search rules in
+    let inverse_long : length inverse ≡ 65 = search rules in
     let hy = list_polynomial f L y pair.residue_codes in
     let loaded : coefficients c.add_to.new.p ≡ coefficients y =
     c.add_to.ensures.value ∙ ap (λ (x : ℕ → ℕ). add f x (coefficients y)) (zeros_nought 65) ∙ nought_add f L (coefficients y) hy in

@@ -12,8 +12,8 @@ multiply-requires g c =
     let j = c.args.self.now in
     let y = c.args.residue.now in
     let factor = c.correction-correction.result in
-    let product-long : length j.product ≡ 65 = search rules in
-    let factor-long : length factor ≡ 65 = search rules in
+    let product_long : length j.product ≡ 65 = search rules in
+    let factor_long : length factor ≡ 65 = search rules in
     let product_below : Below (j.degree + 1) (coefficients j.product) =
     below_more (suc j.degree) (j.degree + 1) (coefficients j.product) (omega arith) c.requires.state.has_degree.above in
     record {
@@ -27,7 +27,7 @@ pub multiply-requires-2 : goal.multiply-requires-2
 multiply-requires-2 g c =
     let f = g.F.Field.arithmetic in
     let j = c.args.self.now in
-    let product-long : length j.product ≡ 65 = search rules in
+    let product_long : length j.product ≡ 65 = search rules in
     let product_below : Below (j.degree + 1) (coefficients j.product) =
     below_more (suc j.degree) (j.degree + 1) (coefficients j.product) (omega arith) c.requires.state.has_degree.above in
     record {
@@ -44,8 +44,8 @@ returns g c =
     let m = c.args.modulus.now in
     let y = c.args.residue.now in
     let factor = c.correction-correction.result in
-    let product-long : length j.product ≡ 65 = search rules in
-    let factor-long : length factor ≡ 65 = search rules in
+    let product_long : length j.product ≡ 65 = search rules in
+    let factor_long : length factor ≡ 65 = search rules in
     let product_below : Below (j.degree + 1) (coefficients j.product) =
     below_more (suc j.degree) (j.degree + 1) (coefficients j.product) (omega arith) c.requires.state.has_degree.above in
     let front = front_same j.product (j.degree + 1) product_below (omega (arith, c.requires.room)) in
