@@ -136,12 +136,12 @@ module _ (least most : ℕ) (low : least ≤ 1) (some : 1 ≤ most) (few : most 
           | inr (e, f, h, k, m) ↦ none l e h f k m
         ])
 
-    module _ (e : ℕ) (then : i + 1 < length s) (digit_2 : e ≤ 9) (is_2 : get_or s (i + 1) 0 ≡ first_digit + e) (no_zero : 1 ≤ d) (in-range : 10 * d + e ≤ most) where
+    module _ (e : ℕ) (then : i + 1 < length s) (digit_2 : e ≤ 9) (is_2 : get_or s (i + 1) 0 ≡ first_digit + e) (no_zero : 1 ≤ d) (in_range : 10 * d + e ≤ most) where
       two_read : between i (i + 2) s ≡ (first_digit + d) ∷ (first_digit + e) ∷ []
       two_read = byte_more (i + 1) (i + 2) ((first_digit + d) ∷ []) (first_digit + e) (omega arith) (omega arith) then one_read is_2
 
       is_count : IsCount least most ((first_digit + d) ∷ (first_digit + e) ∷ line_end ∷ []) (10 * d + e)
-      is_count = record { low = omega arith; high = in-range; is = from_two d e no_zero digit digit_2 }
+      is_count = record { low = omega arith; high = in_range; is = from_two d e no_zero digit digit_2 }
 
       pub two_got : i + 2 < length s → get_or s (i + 2) 0 ≡ line_end → Got (λ x. IsCount least most x (10 * d + e)) s i (i + 3)
       two_got l f = record {
