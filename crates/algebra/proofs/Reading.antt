@@ -48,7 +48,7 @@ module _ (f : Arithmetic) (L : FieldLaws f) where
             (theory_euclid.run_start (𝓒 f L) D (up M hM) (up Y hY) (degree_from f L D (up M hM) h) (under_from f L D (up Y hY) k));
       }
 
-  -- One step: the previous remainder divided by the present one, and t-previous - q·t.
+  -- One step: the previous remainder divided by the present one, and t_previous - q·t.
   pub euclid_step : (D e : ℕ) (M Y p r t₀ t q n : ℕ → ℕ) → Euclidean D M Y p r t₀ t → HasDegree e r → IsDivision f e p r q n
       → Euclidean D M Y r n t (subtract f t₀ (multiply f q t))
   euclid_step D e M Y p r t₀ t q n I h V =
@@ -123,7 +123,7 @@ module _ (f : Arithmetic) (L : FieldLaws f) where
       ∙ ap (codes_of f L) (theory_euclid.constant_inverse (𝓒 f L) (up p hp) (degree_from f L 0 (up p hp) h))
       ∙ codes_one f L
 
-  -- If c·previous = 1, then c·t-previous is the inverse of Y modulo M.
+  -- If c·previous = 1, then c·t_previous is the inverse of Y modulo M.
   pub euclid_inverse : (D : ℕ) (M Y p r t₀ t c : ℕ → ℕ) → Euclidean D M Y p r t₀ t → Is c → multiply f c p ≡ one
       → Congruent f M (multiply f (multiply f c t₀) Y) one
   euclid_inverse D M Y p r t₀ t c I hc e =
