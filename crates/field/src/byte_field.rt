@@ -1,6 +1,6 @@
 // The field of 256 elements: bytes as polynomials of eight bits, multiplied modulo x^8 + x^4 + x^3 + x^2 + 1 (0x11D).
 // Every byte but 0 is a power of the byte 2, so a product is a sum of two exponents looked up in a table.
-ghost use Rattle.std.specs.Prelude.{◌≡◌, ◌+◌, ◌<◌};
+ghost use Rattle.std.specs.Prelude.{◌≡◌, ◌+◌, ◌<◌, refl};
 ghost use Rattle.algebra.specs.Arithmetics.{byte_arithmetic};
 ghost use Rattle.algebra.specs.BitPolynomials.{power_of_two};
 ghost use Rattle.algebra.proofs.Bytes.{bytes};
@@ -9,7 +9,8 @@ use crate::Field;
 use crate::byte_exponents::EXPONENTS;
 use crate::byte_powers::POWERS;
 
-/// Bytes: the sum is exclusive or, the product that of bit polynomials reduced by 0x11D.
+/// Bytes: the sum is exclusive or, the product that of bit polynomials reduced by 0x11D. Sum and negative are those of `Bits` but for the
+/// order; one line each, they are written twice rather than passed an order.
 #[derive(Clone, Copy)]
 pub struct Bytes;
 
@@ -35,13 +36,13 @@ fn exponent(a: u16) -> usize
 impl Field for Bytes {
     const ORDER: u16 = 256;
 
+    ghost ORDER = { 256 };
+
     ghost arithmetic = { byte_arithmetic };
 
     ghost lawful = { bytes };
 
-    fn size() -> u16 {
-        Self::ORDER
-    }
+    ghost counted = { refl };
 
     fn sum(a: u16, b: u16) -> u16 {
         if a < Self::ORDER && b < Self::ORDER {

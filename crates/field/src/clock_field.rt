@@ -1,4 +1,5 @@
 // The field of 257 elements: arithmetic modulo the prime 257.
+ghost use Rattle.std.specs.Prelude.{refl};
 ghost use Rattle.algebra.specs.Arithmetics.{modulo};
 ghost use Rattle.algebra.proofs.Modular.{clock_laws};
 
@@ -12,13 +13,13 @@ pub struct Clock;
 impl Field for Clock {
     const ORDER: u16 = 257;
 
+    ghost ORDER = { 257 };
+
     ghost arithmetic = { modulo 257 };
 
     ghost lawful = { clock_laws };
 
-    fn size() -> u16 {
-        Self::ORDER
-    }
+    ghost counted = { refl };
 
     fn sum(a: u16, b: u16) -> u16 {
         if a < Self::ORDER && b < Self::ORDER {

@@ -2,7 +2,7 @@
 // What a field means and the laws that it keeps are stated in the crate `algebra`.
 #![tactic(auto)]
 
-ghost use Rattle.std.specs.Prelude.{◌≡◌, if◌then◌else◌, nat_lt};
+ghost use Rattle.std.specs.Prelude.{◌≡◌, ℕ, if◌then◌else◌, nat_lt};
 ghost use Rattle.algebra.specs.Field.{Arithmetic, FieldLaws};
 
 mod bit_field;
@@ -22,13 +22,11 @@ pub trait Field {
     /// How many elements there are, from 2 to 32,768.
     const ORDER: u16;
 
+    // The value of the constant, which clauses can name.
+    ghost ORDER: { ℕ };
+
     // The meaning: the order, and the four answers as functions of the codes alone.
     ghost arithmetic: { Arithmetic };
-
-    /// `ORDER`, for generic code: a proof about every field knows what a method promises, and not yet the value of a
-    /// constant.
-    fn size() -> u16
-        ensures { result ≡ arithmetic.order };
 
     fn sum(a: u16, b: u16) -> u16
         ensures { result ≡ arithmetic.sum a b };
@@ -44,6 +42,8 @@ pub trait Field {
         ensures { result ≡ arithmetic.inverse a };
 
     ghost lawful: { FieldLaws arithmetic };
+
+    ghost counted: { ORDER ≡ arithmetic.order };
 }
 
 /// Takes `a` out of `b` and puts it back: `a + (-a + b)`, which is `b` for all codes of every field. A number that is
