@@ -1,7 +1,7 @@
 //! How every refusal is shown: a number, the letter of the layer that refused, and two places.
 #![tactic(auto)]
 
-ghost use Rattle.std.specs.Prelude.{◌≡◌, Some};
+ghost use Rattle.std.specs.Prelude.{◌≡◌, Some, encode_utf8};
 ghost use Rattle.fault.specs.declared.Ground.{Ground};
 ghost use Rattle.fault.specs.Shown.{letter_of, line};
 
@@ -32,7 +32,16 @@ impl Layer {
     }
 }
 
-/// Why something was refused, as a user sees it. A place that the ground does not name is 0.
+impl fmt::Display for Layer {
+    ghost output = { λ layer. Some (encode_utf8 (letter_of layer)) };
+
+    fn fmt<W: fmt::Write>(&self, f: &mut fmt::Formatter<W>) -> fmt::Result {
+        f.write_char(self.letter())
+    }
+}
+
+/// Why something was refused, as a user sees it: its number is only shown, and code tells refusals apart by the enums of faults. A
+/// place that the ground does not name is 0.
 #[derive(Clone, Copy, PartialEq, Eq, Debug)]
 pub struct Ground {
     pub number: u8,
@@ -45,11 +54,11 @@ impl fmt::Display for Ground {
     ghost output = { λ g. Some (line g) };
 
     fn fmt<W: fmt::Write>(&self, f: &mut fmt::Formatter<W>) -> fmt::Result {
-        let number = self.number;
-        let letter = self.layer.letter();
-        let first = self.first;
-        let second = self.second;
-        write!(f, "no {number} {letter} {first} {second}")
+        write!(
+            f,
+            "no {} {} {} {}",
+            self.number, self.layer, self.first, self.second
+        )
     }
 }
 
