@@ -1,20 +1,11 @@
 -- The whole numbers modulo q are a field wherever each of them but 0 has an inverse, which one computed test shows.
-use Rattle.std.proofs.Common.{◌≡◌, ℕ, zero, suc, ◌+◌, ◌-◌, ◌*◌, ◌/◌, ◌%◌, ◌<◌, ◌≤◌, Bool, true, eqb, sym, refl, ap, ◌∙◌, add-zero, add_assoc, mod-lt, mod-eq_of_lt, mul_assoc, mul_comm, add-mul, add_comm, zero-mul, mul-one, mul-add, arith}
-use native.Mathlib.Nat.{mod_self, mod-add-mod, add-mod-mod, div-add-mod, mul-add-mod_self_left}
+use Rattle.std.proofs.Common.{◌≡◌, ℕ, zero, suc, ◌+◌, ◌-◌, ◌*◌, ◌%◌, ◌<◌, ◌≤◌, Bool, true, eqb, sym, refl, ap, ◌∙◌, add-zero, add_assoc, mod-lt, mod-eq_of_lt, mul_assoc, mul_comm, add_comm, zero-mul, mul-one, mul-add, arith}
+use Rattle.std.proofs.lemmas.Nat.{mul-mod_first, mul-mod_second}
+use native.Mathlib.Nat.{mod_self, mod-add-mod, add-mod-mod}
 use Rattle.algebra.specs.Arithmetics.{modulo, reciprocal, such_that}
 use Rattle.algebra.specs.Field.{FieldLaws, largest_order}
 use Rattle.algebra.proofs.Computed.{all_below, agree_below}
 use Rattle.algebra.proofs.Guarded.{field_laws}
-
--- A factor may be reduced before the product is.
-reduced_left : (a b q : ℕ) → a % q * b % q ≡ a * b % q
-reduced_left a b q =
-    sym (mul-add-mod_self_left q (a / q * b) (a % q * b))
-    ∙ ap (λ x. x % q) (ap (λ x. x + a % q * b) (sym (mul_assoc q (a / q) b)) ∙ sym (add-mul (q * (a / q)) (a % q) b))
-    ∙ ap (λ x. x * b % q) (div-add-mod a q)
-
-reduced_right : (a b q : ℕ) → a * (b % q) % q ≡ a * b % q
-reduced_right a b q = ap (λ x. x % q) (mul_comm a (b % q)) ∙ reduced_left b a q ∙ ap (λ x. x % q) (mul_comm b a)
 
 abbrev times_modulo : ℕ → ℕ → ℕ → ℕ
 times_modulo q a b = a * b % q
@@ -44,11 +35,11 @@ module _ (q : ℕ) (least : 2 ≤ q) (most : q ≤ largest_order) (test : invers
     plus_minus = λ a h.
         let whole : a + (q - a) ≡ q = omega arith in
         add-mod-mod a (q - a) q ∙ ap (λ x. x % q) whole ∙ mod_self q;
-    times_assoc = λ a b c _ _ _. reduced_left (a * b) c q ∙ ap (λ x. x % q) (mul_assoc a b c) ∙ sym (reduced_right a (b * c) q);
+    times_assoc = λ a b c _ _ _. mul-mod_first (a * b) c q ∙ ap (λ x. x % q) (mul_assoc a b c) ∙ sym (mul-mod_second a (b * c) q);
     times_comm = λ a b _ _. ap (λ x. x % q) (mul_comm a b);
     times_one = λ a h. ap (λ x. x % q) (mul-one a) ∙ mod-eq_of_lt h;
     times_plus = λ a b c _ _ _.
-        reduced_right a (b + c) q
+        mul-mod_second a (b + c) q
         ∙ ap (λ x. x % q) (mul-add a b c)
         ∙ sym (mod-add-mod (a * b) q (a * c % q) ∙ add-mod-mod (a * b) (a * c) q);
     times_reciprocal = has_inverse;

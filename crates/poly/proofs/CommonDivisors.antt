@@ -1,29 +1,28 @@
 -- Euclid's algorithm on slices: two polynomials whose common divisors stay the same, until the second is zero.
-use Rattle.std.proofs.Common.{◌≡◌, ℕ, zero, suc, ◌+◌, ◌-◌, ◌<◌, ◌≤◌, eqb, List, length, set, ℤ, pos, negsuc, MatchBool, sym, ap, ◌∙◌, inl, inr, arith, w32, of_z}
+use Rattle.std.proofs.Common.{◌≡◌, ℕ, zero, suc, ◌+◌, ◌<◌, eqb, List, [], ◌∷◌, ◌++◌, ◌-◌, length, drop, replicate, ℤ, pos, negsuc, MatchBool, sym, refl, ap, ◌∙◌, inl, inr, arith, w32, of_z}
 use mathlib.Core.Path.{fun_ext}
-use native.Mathlib.Decide.{ℕ_discrete, dec_lt}
-use Rattle.std.proofs.lemmas.List.{get_or-set_same, get_or-set_other}
 use Rattle.std.proofs.lemmas.Bool.{ne_eqb}
+use Rattle.std.proofs.lemmas.List.{drop-replicate}
 use Rattle.algebra.specs.Field.{Arithmetic, FieldLaws}
 use Rattle.algebra.specs.Polynomial.{coefficients, Below, HasDegree, DegreeIs, subtract, multiply, IsPolynomial, IsDivision, Divides, ShareFactor}
 use Rattle.algebra.specs.Moduli.{monomial, nought}
-use Rattle.algebra.proofs.Coefficients.{upto, upto_before, below_more, below_nought, list_polynomial, degree_monomial, degree_multiply, degree_one_only, degree_not_nought, monomial_polynomial, multiply_polynomial, multiply_nought, nought_multiply, nought_or_degree, add_comm, subtract_is}
+use Rattle.algebra.proofs.Coefficients.{below_nought, list_polynomial, degree_monomial, degree_multiply, degree_one_only, degree_not_nought, monomial_polynomial, multiply_polynomial, multiply_nought, nought_multiply, nought_or_degree, add_comm, subtract_is}
+use Rattle.algebra.proofs.Remainders.{zeros_nought}
 use Rattle.algebra.proofs.Residues.{divides_self, divides_nought, divides_multiple, divides_add, divides_subtract}
-use Rattle.poly.specs.Slices.{Codes, IsGcd, Significant, Divided, capacity}
-use Rattle.poly.proofs.Fronts.{significant_degree}
-use Rattle.poly.proofs.Scaled.{upto_other}
+use Rattle.poly.specs.Slices.{Codes, IsGcd}
 
--- One more code of p is in.
-pub loaded_more : (p : ℕ → ℕ) (i : ℕ) (xs : List ℕ) → i < length xs → coefficients xs ≡ upto i p → coefficients (set xs i (p i)) ≡ upto (i + 1) p
-loaded_more p i xs l e = fun_ext each
-  where
-    each : (j : ℕ) → coefficients (set xs i (p i)) j ≡ upto (i + 1) p j
-    each j =
-        let next : i + 1 ≡ suc i = omega arith in
-        rw next (elim (ℕ_discrete j i) [
-          | yes q ↦ rw q (get_or-set_same xs i (p i) 0 l ∙ sym (upto_before (suc i) p i (omega arith)))
-          | no n ↦ get_or-set_other xs i j (p i) 0 n ∙ ap (λ (q : ℕ → ℕ). q j) e ∙ sym (upto_other i p j n)
-        ])
+same_behind : (x : ℕ) (xs ys : List ℕ) → coefficients xs ≡ coefficients ys → (i : ℕ) → coefficients (x ∷ xs) i ≡ coefficients (x ∷ ys) i
+same_behind x xs ys e zero = refl
+same_behind x xs ys e (suc i) = ap (λ (p : ℕ → ℕ). p i) e
+
+-- Zeros behind a polynomial add nothing to it.
+padded : (xs : List ℕ) (n : ℕ) → coefficients (xs ++ replicate n 0) ≡ coefficients xs
+padded [] n = zeros_nought n
+padded (x ∷ xs) n = fun_ext (same_behind x (xs ++ replicate n 0) xs (padded xs n))
+
+-- A buffer of zeros whose first places hold p.
+pub loaded_is : (p xs : List ℕ) (n : ℕ) → xs ≡ p → coefficients (xs ++ drop (length p) (replicate n 0)) ≡ coefficients p
+loaded_is p xs n e = rw (e, drop-replicate {X = ℕ} (length p) n 0) (padded p (n - length p))
 
 module _ (f : Arithmetic) (L : FieldLaws f) where
   abbrev Is : (ℕ → ℕ) → Type 0
@@ -129,45 +128,23 @@ module _ (f : Arithmetic) (L : FieldLaws f) where
   gcd_decides (negsuc zero) m n g G hg h = zeros_share m n g G h
   gcd_decides (negsuc (suc k)) m n g G hg h = absurd h
 
-  -- The state of the loop: three buffers, and how many codes of the second are significant.
-  pub record Searching (m n : ℕ → ℕ) (previous current quotient : List ℕ) (count : ℕ) : Type 0 where
-    pub previous_long : length previous ≡ capacity
-    pub current_long : length current ≡ capacity
-    pub quotient_long : length quotient ≡ capacity
+  -- The state of the loop.
+  pub record Searching (m n : ℕ → ℕ) (previous current : List ℕ) : Type 0 where
     pub previous_codes : Codes f previous
     pub current_codes : Codes f current
-    pub counted : Significant (coefficients current) count
     pub divisors : SameDivisors m n (coefficients previous) (coefficients current)
 
-  module _ (m n : ℕ → ℕ) (previous current quotient : List ℕ) (count : ℕ) (S : Searching m n previous current quotient count) (more : 0 < count)
-      (q r : List ℕ) (D : Divided f (coefficients previous) (coefficients current) (coefficients q) (coefficients r)) where
-    division : IsDivision f (count - 1) (coefficients previous) (coefficients current) (coefficients q) (coefficients r)
-    division = D.by_degree (count - 1) (significant_degree (coefficients current) count S.counted more)
-
-    pub searching_again : (count' : ℕ) → length q ≡ length quotient → length r ≡ length previous → Significant (coefficients r) count'
-        → Searching m n current r q count'
-    searching_again count' lq lr s =
+  module _ (m n : ℕ → ℕ) (previous current : List ℕ) (S : Searching m n previous current) where
+    pub searching_again : (d : ℕ) (q : ℕ → ℕ) (r : List ℕ) → IsDivision f d (coefficients previous) (coefficients current) q (coefficients r)
+        → Searching m n current r
+    searching_again d q r D =
         record {
-          previous_long = S.current_long;
-          current_long = lr ∙ S.previous_long;
-          quotient_long = lq ∙ S.quotient_long;
           previous_codes = S.current_codes;
-          current_codes = division.remainder_polynomial.codes;
-          counted = s;
+          current_codes = D.remainder_polynomial.codes;
           divisors =
-              divisors_step (count - 1) m n (coefficients previous) (coefficients current) (coefficients q) (coefficients r)
-              (list_polynomial f L previous S.previous_codes) (list_polynomial f L current S.current_codes) division S.divisors;
+              divisors_step d m n (coefficients previous) (coefficients current) q (coefficients r) (list_polynomial f L previous S.previous_codes)
+              (list_polynomial f L current S.current_codes) D S.divisors;
         }
 
-    pub searching_less : (count' : ℕ) → Significant (coefficients r) count' → count' < count
-    searching_less count' s =
-        elim (dec_lt count' count) [
-          | yes l ↦ l
-          | no l ↦ absurd (omega (arith, s.leading (omega arith), division.remainder_below (count' - 1) (omega arith)))
-        ]
-
-  pub searching_ends : (m n : ℕ → ℕ) (previous current quotient : List ℕ) (count : ℕ) → Searching m n previous current quotient count → count ≤ 0
-      → IsGcd f m n (coefficients previous)
-  searching_ends m n previous current quotient count S z =
-      divisors_end m n (coefficients previous) (coefficients current) (list_polynomial f L previous S.previous_codes)
-      (below_more count 0 (coefficients current) z S.counted.above) S.divisors
+    pub searching_ends : Below 0 (coefficients current) → IsGcd f m n (coefficients previous)
+    searching_ends z = divisors_end m n (coefficients previous) (coefficients current) (list_polynomial f L previous S.previous_codes) z S.divisors

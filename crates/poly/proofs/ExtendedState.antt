@@ -27,16 +27,13 @@ significant_most d p n h s =
       | no l ↦ omega arith
     ]
 
-pub front_same : (xs : List ℕ) (n : ℕ) → n ≤ length xs → Significant (coefficients xs) n → coefficients (take (n - 0) xs) ≡ coefficients xs
-front_same xs n l s = let whole : n - 0 ≡ n = omega arith in rw whole (front_is xs n s.above l)
-
 -- What is taken off is the product of the whole slices.
 pub fronts_taken : (f : Arithmetic) (p x : ℕ → ℕ) (q t : List ℕ) (nq nt : ℕ) → nq ≤ length q → nt ≤ length t → Significant (coefficients q) nq
-    → Significant (coefficients t) nt → x ≡ subtract f p (multiply f (coefficients (take (nq - 0) q)) (coefficients (take (nt - 0) t)))
+    → Significant (coefficients t) nt → x ≡ subtract f p (multiply f (coefficients (take nq q)) (coefficients (take nt t)))
     → x ≡ subtract f p (multiply f (coefficients q) (coefficients t))
 fronts_taken f p x q t nq nt lq lt sq st e =
-    e ∙ ap (λ (y : ℕ → ℕ). subtract f p (multiply f y (coefficients (take (nt - 0) t)))) (front_same q nq lq sq)
-    ∙ ap (λ (y : ℕ → ℕ). subtract f p (multiply f (coefficients q) y)) (front_same t nt lt st)
+    e ∙ ap (λ (y : ℕ → ℕ). subtract f p (multiply f y (coefficients (take nt t)))) (front_is q nq sq.above lq)
+    ∙ ap (λ (y : ℕ → ℕ). subtract f p (multiply f (coefficients q) y)) (front_is t nt st.above lt)
 
 module _ (f : Arithmetic) (L : FieldLaws f) where
   pub from_euclidean : (D : ℕ) (M Y p r t₀ t : ℕ → ℕ) → Euclidean f L D M Y p r t₀ t → Extended f D M Y p r t₀ t
@@ -138,7 +135,7 @@ module _ (f : Arithmetic) (L : FieldLaws f) where
             omega (arith, significant_most (E.previous_degree - u.0) q nq hq sq, significant_most E.t_degree (coefficients e.t_current) nt E.t_has st, E.degrees, R.fits)
       ]
 
--- The buffers that start holds 0 and 1.
+-- A buffer that begins with 1 and goes on with zeros.
 pub unit_is : (n : ℕ) → coefficients (1 ∷ replicate n 0) ≡ one
 unit_is n = fun_ext each
   where

@@ -1,4 +1,5 @@
 pub mod CommonDivisors
+pub mod Descending
 pub mod ExtendedState
 pub mod Fronts
 pub mod LongDivision

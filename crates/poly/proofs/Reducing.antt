@@ -1,28 +1,34 @@
--- The loop that reduces: the remainder of the codes from a place on, one code more with each turn.
-use Rattle.std.proofs.Common.{◌≡◌, ℕ, ◌+◌, ◌-◌, ◌<◌, ◌≤◌, List, ◌∷◌, length, drop, replicate, sym, ap, ◌∙◌, arith}
-use Rattle.std.proofs.lemmas.List.{drop_all, drop_more}
-use Rattle.algebra.specs.Field.{Arithmetic}
+-- The loop that reduces: the codes that are in are the last of p, and the residue is their remainder.
+use Rattle.std.proofs.Common.{◌≡◌, ℕ, ◌+◌, List, [], ◌∷◌, ◌++◌, length, replicate, sym, ap, ◌∙◌, arith}
+use Rattle.std.proofs.lemmas.List.{append-nil, append_assoc}
 use Rattle.algebra.specs.Polynomial.{HasDegree, coefficients}
+use Rattle.algebra.specs.Field.{Arithmetic}
 use Rattle.algebra.specs.Remainder.{cleared, remainder}
 use Rattle.algebra.proofs.Coefficients.{coefficients_below}
 
-module _ (f : Arithmetic) (m : ℕ → ℕ) (p : List ℕ) where
-  pub reduce_none : (d : ℕ) (xs : List ℕ) → length xs ≡ d → xs ≡ replicate d 0 → xs ≡ remainder f (length xs) m (drop (length p) p)
-  unfolding remainder
-  reduce_none d xs n e = e ∙ ap (λ k. replicate k 0) (sym n) ∙ sym (ap (remainder f (length xs) m) (drop_all (length p) p (omega arith)))
+module _ (f : Arithmetic) (d : ℕ) (m : ℕ → ℕ) (p : List ℕ) where
+  pub record Reduced (left residue : List ℕ) : Type 0 where
+    pub taken : List ℕ
+    pub whole : p ≡ left ++ taken
+    pub is : residue ≡ remainder f d m taken
 
-  pub reduce_more : (d i : ℕ) (xs ys : List ℕ) → 0 < i → i ≤ length p → length xs ≡ d → ys ≡ cleared f (length xs) m (coefficients p (i - 1) ∷ xs)
-      → xs ≡ remainder f d m (drop i p) → ys ≡ remainder f d m (drop (i - 1) p)
+  pub reduced_none : (left residue : List ℕ) → left ≡ p → residue ≡ replicate d 0 → Reduced left residue
   unfolding remainder
-  reduce_more d i xs ys l h n w e =
-      let up : i - 1 + 1 ≡ i = omega arith in
-      w ∙ ap (λ k. cleared f k m (coefficients p (i - 1) ∷ xs)) n ∙ ap (λ r. cleared f d m (coefficients p (i - 1) ∷ r)) e
-      ∙ sym
-      (ap (remainder f d m) (drop_more p (i - 1) 0 (omega arith))
-      ∙ ap (λ k. cleared f d m (coefficients p (i - 1) ∷ remainder f d m (drop k p))) up)
+  reduced_none left residue all zeros = record { taken = []; whole = sym (append-nil left ∙ all); is = zeros }
 
-  pub reduce_all : (d d' i : ℕ) (xs : List ℕ) → d' ≡ d → i ≡ 0 → xs ≡ remainder f d' m (drop i p) → xs ≡ remainder f d m p
-  reduce_all d d' i xs n z e = e ∙ ap (λ k. remainder f k m (drop i p)) n ∙ ap (λ k. remainder f d m (drop k p)) z
+  pub reduced_more : (left left' : List ℕ) (code : ℕ) (residue residue' : List ℕ) → left ≡ left' ++ code ∷ [] → length residue ≡ d
+      → residue' ≡ cleared f (length residue) m (code ∷ residue) → Reduced left residue → Reduced left' residue'
+  unfolding remainder
+  reduced_more left left' code residue residue' last n w R =
+      record {
+        taken = code ∷ R.taken;
+        whole = R.whole ∙ ap (λ (xs : List ℕ). xs ++ R.taken) last ∙ append_assoc left' (code ∷ []) R.taken;
+        is = w ∙ ap (λ k. cleared f k m (code ∷ residue)) n ∙ ap (λ (r : List ℕ). cleared f d m (code ∷ r)) R.is;
+      }
+
+  pub reduced_all : (left residue : List ℕ) → length left ≡ 0 → Reduced left residue → residue ≡ remainder f d m p
+  reduced_all [] residue none R = R.is ∙ ap (remainder f d m) (sym R.whole)
+  reduced_all (x ∷ left) residue none R = absurd (omega arith)
 
 -- A modulus of d + 1 codes with leading code 1 has degree d.
 pub monic_degree : (d : ℕ) (m : List ℕ) → length m ≡ d + 1 → coefficients m d ≡ 1 → HasDegree d (coefficients m)

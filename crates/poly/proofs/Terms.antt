@@ -1,13 +1,15 @@
--- The loops that build products, term by term of the left factor.
-use Rattle.std.proofs.Common.{◌≡◌, ℕ, suc, ◌+◌, List, replicate, sym, ap, ◌∙◌, arith}
+-- Sums with the factors 1 and -1, and the loop that adds a product, term by term of the left factor.
+use Rattle.std.proofs.Common.{◌≡◌, ℕ, suc, ◌+◌, ◌<◌, List, sym, ap, ◌∙◌, arith}
 use Rattle.algebra.specs.Field.{Arithmetic, FieldLaws}
-use Rattle.algebra.specs.Polynomial.{coefficients, add, subtract, multiply, IsPolynomial}
-use Rattle.algebra.specs.Moduli.{monomial, nought}
-use Rattle.algebra.proofs.Codes.{negative_of_zero}
-use Rattle.algebra.proofs.Coefficients.{upto, upto_polynomial, multiply_upto_none, multiply_upto_next, multiply_polynomial, monomial_polynomial, subtract_polynomial, add_polynomial, add_comm, add_assoc, add_nought, subtract_add, subtract_is, one_multiply}
+use Rattle.algebra.specs.Polynomial.{coefficients, add, subtract, multiply, Below, IsPolynomial}
+use Rattle.algebra.specs.Moduli.{monomial}
+use Rattle.algebra.proofs.Codes.{product_zero}
+use Rattle.algebra.proofs.Coefficients.{upto, upto_polynomial, multiply_assoc, multiply_upto_none, multiply_upto_next, multiply_upto_all, multiply_polynomial, monomial_from, monomial_polynomial, add_assoc, add_nought, one_multiply}
 use Rattle.algebra.proofs.Negatives.{add_negative_multiple}
-use Rattle.algebra.proofs.Remainders.{zeros_nought}
-use Rattle.poly.specs.Slices.{Codes}
+
+-- p + c·(the first k terms of a)·b.
+abbrev pub part : Arithmetic → ℕ → (ℕ → ℕ) → (ℕ → ℕ) → (ℕ → ℕ) → ℕ → ℕ → ℕ
+part f c p a b k = add f p (multiply f (upto k (multiply f (monomial c 0) a)) b)
 
 module _ (f : Arithmetic) (L : FieldLaws f) where
   -- Whole slices, as sums with the factor 1 and -1.
@@ -20,58 +22,34 @@ module _ (f : Arithmetic) (L : FieldLaws f) where
       e ∙ ap (λ k. add f p (multiply f (monomial k 0) r)) n ∙ add_negative_multiple f L 1 0 p r (omega (arith, L.order_least)) hp hr
       ∙ ap (subtract f p) (one_multiply f L r hr)
 
-  -- (p - q) - r = p - (q + r)
-  pub subtract_twice : (p q r : ℕ → ℕ) → IsPolynomial f p → IsPolynomial f q → IsPolynomial f r
-      → subtract f (subtract f p q) r ≡ subtract f p (add f q r)
-  subtract_twice p q r hp hq hr =
-      let hpq = subtract_polynomial f L p q hp hq in
-      let hall = subtract_polynomial f L (subtract f p q) r hpq hr in
-      subtract_is f L p (add f q r) (subtract f (subtract f p q) r) hp (add_polynomial f L q r hq hr) hall
-      (ap (add f (subtract f (subtract f p q) r)) (add_comm f L q r hq hr)
-      ∙ sym (add_assoc f L (subtract f (subtract f p q) r) r q hall hr hq)
-      ∙ ap (λ (x : ℕ → ℕ). add f x q) (subtract_add f L (subtract f p q) r hpq hr)
-      ∙ subtract_add f L p q hp hq)
+  -- The loop that adds c·a·b.
+  module _ (c : ℕ) (p a b : ℕ → ℕ) (hc : c < f.order) (hp : IsPolynomial f p) (ha : IsPolynomial f a) (hb : IsPolynomial f b) where
+    abbrev scaled : ℕ → ℕ
+    scaled = multiply f (monomial c 0) a
 
-  pub subtract_none : (p : ℕ → ℕ) → IsPolynomial f p → subtract f p nought ≡ p
-  subtract_none p hp = ap (λ (x : ℕ). λ i. f.sum (p i) x) (negative_of_zero f L) ∙ add_nought f L p hp
+    scaled_polynomial : IsPolynomial f scaled
+    scaled_polynomial = multiply_polynomial f L (monomial c 0) a (monomial_polynomial f L c 0 hc) ha
 
-  module _ (a b : ℕ → ℕ) (ha : IsPolynomial f a) (hb : IsPolynomial f b) where
-    -- The first k terms of a, times b.
-    abbrev pub part : ℕ → ℕ → ℕ
-    part k = multiply f (upto k a) b
+    scaled_at : (k : ℕ) → scaled k ≡ f.product c (a k)
+    scaled_at k = let whole : 0 + k ≡ k = omega arith in rw whole at (monomial_from f L c 0 a k hc ha)
 
-    pub part_polynomial : (k : ℕ) → IsPolynomial f (part k)
-    part_polynomial k = multiply_polynomial f L (upto k a) b (upto_polynomial f L k a ha) hb
+    pub part_none : p ≡ part f c p a b 0
+    part_none = sym (ap (add f p) (multiply_upto_none f L scaled b hb) ∙ add_nought f L p hp)
 
-    pub product_none : (xs : List ℕ) (n : ℕ) → xs ≡ replicate n 0 → coefficients xs ≡ part 0
-    product_none xs n e = ap coefficients e ∙ zeros_nought n ∙ sym (multiply_upto_none f L a b hb)
-
-    pub product_more : (k : ℕ) (xs ys : List ℕ) → coefficients xs ≡ part k → coefficients ys ≡ add f (coefficients xs) (multiply f (monomial (a k) k) b)
-        → coefficients ys ≡ part (k + 1)
-    product_more k xs ys e w =
+    pub part_more : (k x : ℕ) (xs ys : List ℕ) → x ≡ f.product c (a k) → coefficients xs ≡ part f c p a b k
+        → coefficients ys ≡ add f (coefficients xs) (multiply f (monomial x k) b) → coefficients ys ≡ part f c p a b (k + 1)
+    part_more k x xs ys ex e w =
         let next : suc k ≡ k + 1 = omega arith in
-        w ∙ ap (λ (x : ℕ → ℕ). add f x (multiply f (monomial (a k) k) b)) e ∙ sym (multiply_upto_next f L k a b ha hb) ∙ ap part next
+        let here : x ≡ scaled k = ex ∙ sym (scaled_at k) in
+        let so_far = multiply_polynomial f L (upto k scaled) b (upto_polynomial f L k scaled scaled_polynomial) hb in
+        let term = multiply_polynomial f L (monomial (scaled k) k) b (monomial_polynomial f L (scaled k) k (scaled_polynomial.codes k)) hb in
+        w ∙ ap (λ h. add f (coefficients xs) (multiply f (monomial h k) b)) here
+        ∙ ap (λ (y : ℕ → ℕ). add f y (multiply f (monomial (scaled k) k) b)) e
+        ∙ add_assoc f L p (multiply f (upto k scaled) b) (multiply f (monomial (scaled k) k) b) hp so_far term
+        ∙ ap (add f p) (sym (multiply_upto_next f L k scaled b scaled_polynomial hb)) ∙ ap (part f c p a b) next
 
-    pub product_codes : (k : ℕ) (xs : List ℕ) → coefficients xs ≡ part k → Codes f xs
-    product_codes k xs e i = let here : coefficients xs i ≡ part k i = ap (λ (x : ℕ → ℕ). x i) e in rw here ((part_polynomial k).codes i)
-
-    pub taken_none : (p : ℕ → ℕ) → IsPolynomial f p → p ≡ subtract f p (part 0)
-    taken_none p hp = sym (ap (subtract f p) (multiply_upto_none f L a b hb) ∙ subtract_none p hp)
-
-    pub taken_more : (p : ℕ → ℕ) (k c : ℕ) (xs ys : List ℕ) → IsPolynomial f p → c ≡ f.negative (a k) → coefficients xs ≡ subtract f p (part k)
-        → coefficients ys ≡ add f (coefficients xs) (multiply f (monomial c k) b) → coefficients ys ≡ subtract f p (part (k + 1))
-    taken_more p k c xs ys hp n e w =
-        let next : suc k ≡ k + 1 = omega arith in
-        let hk = part_polynomial k in
-        let hx = subtract_polynomial f L p (part k) hp hk in
-        let ht = multiply_polynomial f L (monomial (a k) k) b (monomial_polynomial f L (a k) k (ha.codes k)) hb in
-        w ∙ ap (λ h. add f (coefficients xs) (multiply f (monomial h k) b)) n
-        ∙ ap (λ (x : ℕ → ℕ). add f x (multiply f (monomial (f.negative (a k)) k) b)) e
-        ∙ add_negative_multiple f L (a k) k (subtract f p (part k)) b (ha.codes k) hx hb
-        ∙ subtract_twice p (part k) (multiply f (monomial (a k) k) b) hp hk ht
-        ∙ ap (subtract f p) (sym (multiply_upto_next f L k a b ha hb) ∙ ap part next)
-
-    pub taken_codes : (p : ℕ → ℕ) (k : ℕ) (xs : List ℕ) → coefficients xs ≡ subtract f p (part k) → Codes f xs
-    taken_codes p k xs e i =
-        let here : coefficients xs i ≡ subtract f p (part k) i = ap (λ (x : ℕ → ℕ). x i) e in
-        rw here (L.sum_below (p i) (f.negative (part k i)))
+    pub part_all : (k : ℕ) → Below k a → part f c p a b k ≡ add f p (multiply f (monomial c 0) (multiply f a b))
+    part_all k none =
+        ap (add f p)
+        (multiply_upto_all f L k scaled b (λ i l. scaled_at i ∙ ap (f.product c) (none i l) ∙ product_zero f L c hc)
+        ∙ multiply_assoc f L (monomial c 0) a b (monomial_polynomial f L c 0 hc) ha hb)

@@ -1,5 +1,5 @@
 -- Euclid's extended algorithm on M and Y: what two remainders that follow one another, and the factors of Y in them, keep.
-use Rattle.std.specs.Prelude.{◌≡◌, ℕ, ◌+◌, ◌<◌}
+use Rattle.std.specs.Prelude.{◌≡◌, ℕ, zero, suc, ◌+◌, ◌<◌}
 use Rattle.algebra.specs.Field.{Arithmetic}
 use Rattle.algebra.specs.Polynomial.{Below, HasDegree, IsPolynomial, Divides, add, subtract, multiply, coefficients}
 use Rattle.poly.specs.declared.steps.Euclid.{Euclid}
@@ -50,3 +50,8 @@ pub record Stepped (f : Arithmetic) (from to : Euclid) : Type 0 where
   pub t_is : coefficients to.t_current ≡ subtract f (coefficients from.t_previous) (multiply f quotient (coefficients from.t_current))
   pub current_codes : Codes f to.current
   pub t_codes : Codes f to.t_current
+
+-- n steps lead from one state to the other, each from a remainder of more than `most` codes.
+abbrev pub Steps : Arithmetic → ℕ → ℕ → Euclid → Euclid → Type 0
+Steps f most zero from to = to ≡ from
+Steps f most (suc n) from to = (e : Euclid) × Steps f most n from e × ¬ (Below most (coefficients e.current)) × Stepped f e to

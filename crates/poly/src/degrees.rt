@@ -1,18 +1,24 @@
 // The degree of a polynomial.
-ghost use Rattle.std.specs.Prelude.{◌≤◌, length};
-ghost use Rattle.algebra.specs.Polynomial.{DegreeIs, coefficients};
+ghost use Rattle.std.specs.Prelude.{◌≤◌, ◌<◌, MatchOption, length};
+ghost use Rattle.algebra.specs.Polynomial.{Below, DegreeIs, HasDegree, coefficients};
 ghost use Rattle.poly.specs.Slices.{Significant, longest};
+
+/// The place of the last code other than 0.
+fn leading(p: &[u16]) -> Option<usize>
+    ensures { MatchOption result (Below 0 (coefficients p.now)) (λ place. (place < length p.now) × HasDegree place (coefficients p.now)) }
+{
+    p.iter().rposition(|code| *code != 0)
+}
 
 /// How many codes there are up to the last one other than 0: one more than the degree, and 0 for zero.
 pub fn significant(p: &[u16]) -> usize
     ensures within { result ≤ length p.now }
     ensures is { Significant (coefficients p.now) result }
 {
-    let mut count = p.len();
-    while count > 0 && p[count - 1] == 0 {
-        count -= 1;
+    match leading(p) {
+        Some(place) => place + 1,
+        None => 0,
     }
-    count
 }
 
 /// The place of the last code other than 0; -1 where there is none.
@@ -20,6 +26,8 @@ pub fn degree(p: &[u16]) -> i32
     requires { length p.now ≤ longest }
     ensures { DegreeIs (coefficients p.now) result }
 {
-    let count = significant(p);
-    if count == 0 { -1 } else { (count - 1) as i32 }
+    match leading(p) {
+        Some(place) => place as i32,
+        None => -1,
+    }
 }

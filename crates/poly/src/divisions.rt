@@ -20,6 +20,7 @@ fn divide_long<F: Field>(remainder: &mut [u16], divisor: &[u16], quotient: &mut 
 {
     let top = divisor.len() - 1;
     let inverse = F::inverse(divisor[top]);
+    // By place: a turn reads one buffer at one place, writes another at a second, and then changes the first.
     for shift in (0..remainder.len().saturating_sub(top)).rev() {
         let factor = F::product(remainder[top + shift], inverse);
         quotient[shift] = factor;
@@ -44,7 +45,7 @@ pub fn divide<F: Field>(remainder: &mut [u16], divisor: &[u16], quotient: &mut [
     quotient.fill(0);
     let count = significant(divisor);
     if count > 0 {
-        divide_long::<F>(remainder, &divisor[0..count], quotient);
+        divide_long::<F>(remainder, &divisor[..count], quotient);
     }
     (degree(quotient), degree(remainder))
 }

@@ -10,15 +10,14 @@ use field::Field;
 /// How many codes a working buffer holds: enough for degree 64.
 pub const CAPACITY: usize = 65;
 
-/// Copies `p` into a buffer that may be longer.
-pub(crate) fn load(buffer: &mut [u16], p: &[u16])
-    requires { length p.now ≤ length buffer.old }
-    ensures { coefficients buffer.new ≡ coefficients p.now }
+/// `p` in a buffer of its own.
+pub(crate) fn loaded(p: &[u16]) -> [u16; CAPACITY]
+    requires { length p.now ≤ capacity }
+    ensures { coefficients result ≡ coefficients p.now }
 {
-    buffer.fill(0);
-    for (place, code) in p.iter().enumerate() {
-        buffer[place] = *code;
-    }
+    let mut buffer = [0; CAPACITY];
+    buffer[..p.len()].copy_from_slice(p);
+    buffer
 }
 
 /// Leaves a greatest common divisor of `m` and `n` in `divisor`, which has `CAPACITY` codes, and answers its degree; -1
@@ -33,18 +32,13 @@ pub fn gcd<F: Field>(m: &[u16], n: &[u16], divisor: &mut [u16]) -> i32
     ensures has_degree { DegreeIs (coefficients divisor.new) result }
     ensures codes { Codes F.Field.arithmetic divisor.new }
 {
-    let mut previous = [0; CAPACITY];
-    let mut current = [0; CAPACITY];
+    let mut previous = loaded(m);
+    let mut current = loaded(n);
     let mut quotient = [0; CAPACITY];
-    load(&mut previous, m);
-    load(&mut current, n);
-    let mut count = significant(&current);
-    while count > 0 {
+    // Not by `Euclid`: its factors would cost a product each turn, and it asks that `n` be of lower degree than `m`.
+    while significant(&current) > 0 {
         divide::<F>(&mut previous, &current, &mut quotient);
-        let remainder = previous;
-        previous = current;
-        current = remainder;
-        count = significant(&current);
+        (previous, current) = (current, previous);
     }
     divisor.copy_from_slice(&previous);
     degree(divisor)

@@ -5,6 +5,7 @@ ghost use Rattle.algebra.specs.Remainder.{IsRemainder, cleared, remainder};
 ghost use Rattle.poly.specs.Slices.{Codes};
 
 use field::Field;
+use std::mem;
 
 /// `code + z·residue` less the multiple of the modulus that clears its highest coefficient, in the place of the residue.
 fn shift_in<F: Field>(residue: &mut [u16], modulus: &[u16], code: u16)
@@ -14,10 +15,10 @@ fn shift_in<F: Field>(residue: &mut [u16], modulus: &[u16], code: u16)
 {
     let top = residue[residue.len() - 1];
     let mut lower = code;
-    for i in 0..residue.len() {
-        let here = residue[i];
-        residue[i] = F::sum(lower, F::negative(F::product(top, modulus[i])));
-        lower = here;
+    // By place: of a slice that iter_mut lends to zip a proof knows only the length afterwards.
+    for (i, factor) in modulus[..residue.len()].iter().enumerate() {
+        let cleared = F::sum(lower, F::negative(F::product(top, *factor)));
+        lower = mem::replace(&mut residue[i], cleared);
     }
 }
 
@@ -32,7 +33,7 @@ pub fn reduce<F: Field>(p: &[u16], modulus: &[u16], residue: &mut [u16])
     ensures codes { Codes F.Field.arithmetic residue.new }
 {
     residue.fill(0);
-    for place in (0..p.len()).rev() {
-        shift_in::<F>(residue, modulus, p[place]);
+    for code in p.iter().rev() {
+        shift_in::<F>(residue, modulus, *code);
     }
 }

@@ -3,16 +3,17 @@ ghost use Rattle.std.specs.Prelude.{◌≡◌, ℕ, ◌≤◌, length};
 ghost use Rattle.algebra.specs.Field.{Arithmetic, FieldLaws};
 ghost use Rattle.algebra.specs.Moduli.{nought, one};
 ghost use Rattle.algebra.specs.Polynomial.{Below, HasDegree, coefficients};
-ghost use Rattle.poly.specs.Extended.{Holds, Running, Stepped};
+ghost use Rattle.poly.specs.Extended.{Holds, Running, Stepped, Steps};
 ghost use Rattle.poly.specs.Slices.{Codes, capacity};
 
 use crate::degrees::significant;
 use crate::divisions::divide;
-use crate::divisors::{CAPACITY, load};
+use crate::divisors::{CAPACITY, loaded};
 use crate::products::subtract_product;
 use field::Field;
 
-/// Two remainders that follow one another, and the factors of the second polynomial in them.
+/// Two remainders that follow one another, and the factors of the second polynomial in them. No ghost field keeps what a run
+/// keeps: `start` takes any numbers, and the facts are of the two polynomials begun with, which are not held here.
 #[derive(Clone, Copy)]
 pub struct Euclid {
     pub previous: [u16; CAPACITY],
@@ -32,18 +33,11 @@ impl Euclid {
         ensures t_current { coefficients result.t_current ≡ one }
         ensures extended { (f : Arithmetic) → FieldLaws f → Codes f m.now → Codes f y.now → (D : ℕ) → HasDegree D (coefficients m.now) → Below D (coefficients y.now) → Holds f D (coefficients m.now) (coefficients y.now) result }
     {
-        let mut previous = [0; CAPACITY];
-        let mut current = [0; CAPACITY];
-        let t_previous = [0; CAPACITY];
-        let mut t_current = [0; CAPACITY];
-        load(&mut previous, m);
-        load(&mut current, y);
-        t_current[0] = 1;
         Euclid {
-            previous,
-            current,
-            t_previous,
-            t_current,
+            previous: loaded(m),
+            current: loaded(y),
+            t_previous: [0; CAPACITY],
+            t_current: loaded(&[1]),
         }
     }
 
@@ -53,22 +47,28 @@ impl Euclid {
         ensures stepped { Stepped F.Field.arithmetic self.old self.new }
         ensures extended { (e D : ℕ) (M Y : ℕ → ℕ) → HasDegree e (coefficients self.old.current) → Holds F.Field.arithmetic D M Y self.old → Holds F.Field.arithmetic D M Y self.new }
     {
-        let mut remainder = self.previous;
-        let divisor = self.current;
         let mut quotient = [0; CAPACITY];
-        divide::<F>(&mut remainder, &divisor, &mut quotient);
-        let mut next = self.t_previous;
-        let factor = self.t_current;
+        divide::<F>(&mut self.previous, &self.current, &mut quotient);
         let quotient_count = significant(&quotient);
-        let factor_count = significant(&factor);
+        let factor_count = significant(&self.t_current);
         subtract_product::<F>(
-            &mut next,
-            &quotient[0..quotient_count],
-            &factor[0..factor_count],
+            &mut self.t_previous,
+            &quotient[..quotient_count],
+            &self.t_current[..factor_count],
         );
-        self.previous = divisor;
-        self.current = remainder;
-        self.t_previous = factor;
-        self.t_current = next;
+        (self.previous, self.current) = (self.current, self.previous);
+        (self.t_previous, self.t_current) = (self.t_current, self.t_previous);
+    }
+
+    /// Steps until at most `most` codes of the current remainder are significant.
+    pub fn descend<F: Field>(&mut self, most: usize)
+        requires { Running F.Field.arithmetic self.old }
+        ensures first { (n : ℕ) × Steps F.Field.arithmetic most n self.old self.new }
+        ensures few { Below most (coefficients self.new.current) }
+        ensures extended { (D : ℕ) (M Y : ℕ → ℕ) → Holds F.Field.arithmetic D M Y self.old → Holds F.Field.arithmetic D M Y self.new }
+    {
+        while significant(&self.current) > most {
+            self.step::<F>();
+        }
     }
 }

@@ -19,6 +19,7 @@ pub fn add_scaled<F: Field>(p: &mut [u16], factor: u16, shift: usize, r: &[u16])
     if factor == 0 {
         return;
     }
+    // By place: of a slice that iter_mut lends to zip a proof knows only the length afterwards.
     for (i, code) in r.iter().enumerate() {
         p[shift + i] = F::sum(p[shift + i], F::product(factor, *code));
     }

@@ -1,23 +1,26 @@
 use Rattle.std.proofs.Common.{◌≡◌, ℕ, length, replicate, sym, ap, subst, arith, rules}
+use Rattle.std.specs.Iterator.Adapters.{rev_source}
+use Rattle.std.specs.Slice.Iter.{iter_rest}
 use Rattle.algebra.specs.Polynomial.{coefficients}
 use Rattle.algebra.specs.Remainder.{IsRemainder, remainder}
 use Rattle.algebra.proofs.Coefficients.{list_polynomial}
 use Rattle.algebra.proofs.Remainders.{remainder_codes, remainder_is}
 use Rattle.poly.specs.Slices.{Codes}
-use Rattle.poly.proofs.Reducing.{reduce_none, reduce_more, reduce_all, monic_degree}
+use Rattle.poly.proofs.Reducing.{reduced_none, reduced_more, reduced_all, monic_degree}
 use Rattle.poly.proofs.remainders.reduce.Goals as goal
 
-pub loop-place-init : goal.loop-place-init
-loop-place-init g c =
+pub loop-code-init : goal.loop-code-init
+loop-code-init g c =
     let d = length c.args.residue.now in
     let zeros : c.fill.new.self ≡ replicate d 0 = search rules in
-    reduce_none g.F.Field.arithmetic (coefficients c.args.modulus.now) c.args.p.now d c.fill.new.self c.fill.ensures.len zeros
+    reduced_none g.F.Field.arithmetic d (coefficients c.args.modulus.now) c.args.p.now (iter_rest (rev_source c.into_iter-code-iterator.result))
+    c.fill.new.self (search rules) zeros
 
-pub loop-place-preserved : goal.loop-place-preserved
-loop-place-preserved g c =
-    reduce_more g.F.Field.arithmetic (coefficients c.args.modulus.now) c.args.p.now (length c.fill.new.self) c.loop-place.place
-    c.loop-place.residue c.shift_in.new.residue c.loop-place-test.true c.loop-place.auto.place c.loop-place.auto.residue
-    c.shift_in.ensures c.loop-place.invariant
+pub loop-code-preserved : goal.loop-code-preserved
+loop-code-preserved g c =
+    let long : length c.loop-code.residue ≡ length c.args.residue.now = omega arith in
+    reduced_more g.F.Field.arithmetic (length c.args.residue.now) (coefficients c.args.modulus.now) c.args.p.now (iter_rest (rev_source c.loop-code.code-iterator))
+    (iter_rest (rev_source c.next.new.self)) c.in-Some.code.now c.loop-code.residue c.shift_in.new.residue c.in-Some.ensures.steps long c.shift_in.ensures c.loop-code.invariant
 
 pub returns : goal.returns
 returns g c =
@@ -27,10 +30,9 @@ returns g c =
     let m = coefficients modulus in
     let p = c.args.p.now in
     let d = length c.args.residue.now in
-    let start : c.loop-place.place ≡ 0 = omega arith in
-    let value : c.loop-place.residue ≡ remainder f d m p =
-    reduce_all f m p d (length c.fill.new.self) c.loop-place.place c.loop-place.residue c.fill.ensures.len start c.loop-place.invariant in
-    let same : coefficients (remainder f d m p) ≡ coefficients c.loop-place.residue = ap coefficients (sym value) in
+    let value : c.loop-code.residue ≡ remainder f d m p =
+    reduced_all f d m p (iter_rest (rev_source c.loop-code.code-iterator)) c.loop-code.residue c.in-None.ensures.steps.0 c.loop-code.invariant in
+    let same : coefficients (remainder f d m p) ≡ coefficients c.loop-code.residue = ap coefficients (sym value) in
     let codes : Codes f (remainder f d m p) = remainder_codes f L d m p in
     record {
       value = value;

@@ -1,9 +1,10 @@
--- The residue is the remainder of the codes from `place` on.
-use Rattle.std.proofs.Common.{◌≡◌, length, drop}
+use Rattle.std.proofs.Common.{length}
+use Rattle.std.specs.Iterator.Adapters.{rev_source}
+use Rattle.std.specs.Slice.Iter.{iter_rest}
 use Rattle.algebra.specs.Polynomial.{coefficients}
-use Rattle.algebra.specs.Remainder.{remainder}
+use Rattle.poly.proofs.Reducing.{Reduced}
 use Rattle.poly.proofs.remainders.reduce.Given as goal
 
-abbrev pub invariant-loop-place : goal.invariant-loop-place
-invariant-loop-place g l =
-    l.residue ≡ remainder g.F.Field.arithmetic (length l.initial.residue) (coefficients l.modulus) (drop l.place l.p)
+abbrev pub invariant-loop-code : goal.invariant-loop-code
+invariant-loop-code g l =
+    Reduced g.F.Field.arithmetic (length l.fn.residue) (coefficients l.modulus) l.p (iter_rest (rev_source l.code-iterator)) l.residue

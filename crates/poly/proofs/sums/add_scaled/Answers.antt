@@ -24,18 +24,14 @@ loop-i-preserved g c =
     (list_polynomial f L p c.requires.p_codes) (list_polynomial f L r c.requires.r_codes) c.requires.factor_code l c.product.ensures c.sum.ensures
     c.loop-i.invariant
 
-pub returns-then-factor-eq0 : goal.returns-then-factor-eq0
-returns-then-factor-eq0 g c =
+pub returns-then-factor-eq0-clause-value : goal.returns-then-factor-eq0-clause-value
+returns-then-factor-eq0-clause-value g c =
     let f = g.F.Field.arithmetic in
     let L = g.met.F.Field.lawful in
     let p = c.args.p.now in
     let r = c.args.r.now in
-    record {
-      value =
-          nothing_added f L (coefficients p) (coefficients r) c.args.factor c.args.shift (list_polynomial f L p c.requires.p_codes)
-          (list_polynomial f L r c.requires.r_codes) c.if-factor-eq0.true;
-      codes = c.requires.p_codes;
-    }
+    nothing_added f L (coefficients p) (coefficients r) c.args.factor c.args.shift (list_polynomial f L p c.requires.p_codes)
+    (list_polynomial f L r c.requires.r_codes) c.if-factor-eq0.true
 
 pub returns : goal.returns
 returns g c =

@@ -1,4 +1,4 @@
-use Rattle.std.proofs.Common.{◌≡◌, ℕ, ◌-◌, length, sym, refl, subst, arith, rules}
+use Rattle.std.proofs.Common.{◌≡◌, ℕ, length, sym, refl, subst, arith, rules}
 use Rattle.std.proofs.lemmas.List.{length-take-le}
 use Rattle.algebra.specs.Polynomial.{coefficients, multiply, subtract}
 use Rattle.poly.specs.Extended.{Extended}
@@ -7,10 +7,8 @@ use Rattle.poly.proofs.Fronts.{front_codes}
 use Rattle.poly.proofs.ExtendedState.{fronts_taken, counts_fit, extended_step}
 use Rattle.poly.proofs.steps.Euclid.step.Goals as goal
 
-pub subtract_product-requires : goal.subtract_product-requires
-subtract_product-requires g c =
-    let f = g.F.Field.arithmetic in
-    let L = g.met.F.Field.lawful in
+pub subtract_product-requires-clause-fits : goal.subtract_product-requires-clause-fits
+subtract_product-requires-clause-fits g c =
     let e = c.args.self.now in
     let q = c.divide.new.quotient in
     let nq = c.significant-quotient_count.result in
@@ -20,15 +18,19 @@ subtract_product-requires g c =
     let long : length e.t_previous ≡ capacity = search rules in
     let wide : length e.t_current ≡ capacity = search rules in
     let fit =
-    counts_fit f L e (coefficients q) (coefficients c.divide.new.remainder) nq nt c.requires
+    counts_fit g.F.Field.arithmetic g.met.F.Field.lawful e (coefficients q) (coefficients c.divide.new.remainder) nq nt c.requires
     c.divide.ensures.divided sq.is st.is (omega (arith, st.within)) in
-    record {
-      fits =
-          omega (arith, fit, long, length-take-le (nq - 0) q (omega (arith, sq.within)), length-take-le (nt - 0) e.t_current (omega (arith, st.within)));
-      p_codes = c.requires.holds.t_previous_polynomial.codes;
-      a_codes = front_codes f q nq sq.within sq.is c.divide.ensures.quotient_codes;
-      b_codes = front_codes f e.t_current nt st.within st.is c.requires.holds.t_polynomial.codes;
-    }
+    omega (arith, fit, long, length-take-le nq q (omega (arith, sq.within)), length-take-le nt e.t_current (omega (arith, st.within)))
+
+pub subtract_product-requires-clause-a_codes : goal.subtract_product-requires-clause-a_codes
+subtract_product-requires-clause-a_codes g c =
+    let s = c.significant-quotient_count.ensures in
+    front_codes g.F.Field.arithmetic c.divide.new.quotient c.significant-quotient_count.result s.within s.is c.divide.ensures.quotient_codes
+
+pub subtract_product-requires-clause-b_codes : goal.subtract_product-requires-clause-b_codes
+subtract_product-requires-clause-b_codes g c =
+    let s = c.significant-factor_count.ensures in
+    front_codes g.F.Field.arithmetic c.args.self.now.t_current c.significant-factor_count.result s.within s.is c.requires.holds.t_polynomial.codes
 
 pub returns : goal.returns
 returns g c =
