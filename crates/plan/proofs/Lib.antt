@@ -1,4 +1,3 @@
-pub mod Handed
 pub mod Held
 pub mod Made
 pub mod Moduli

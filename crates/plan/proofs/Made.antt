@@ -1,53 +1,33 @@
 -- What the checks of a plan's maker give together.
-use Rattle.std.proofs.Common.{◌≡◌, ℕ, ◌/◌, ◌<◌, ◌≤◌, List, length, get_or, take, sym, ap, ◌∙◌, subst, arith}
-use Rattle.std.proofs.lemmas.List.{take_all}
+use Rattle.std.proofs.Common.{◌≡◌, ℕ, ◌<◌, ◌≤◌, List, length, get_or, take, sym, ap, ◌∙◌, arith}
 use Rattle.algebra.specs.Field.{Arithmetic}
-use Rattle.plan.specs.Agreement.{AreMonic, StartsAgree}
-use Rattle.plan.specs.Limits.{modulus_codes, most_total}
-use Rattle.plan.specs.Refusals.{Accepted}
-use Rattle.plan.specs.Schemes.{AreModuli, Clash, handed_in, held_moduli, IsShaped, Scheme, total_degree, word_length}
-use Rattle.plan.proofs.Held.{held_length}
-use Rattle.plan.proofs.Handed.{handed_positions}
+use Rattle.plan.specs.Agreement.{StartsAgree, kept}
+use Rattle.plan.specs.Drafts.{drafted}
+use Rattle.plan.specs.Limits.{most_total}
+use Rattle.plan.specs.Schemes.{AreModuli, Clash, IsScheme, word_length}
+use Rattle.plan.specs.declared.drafts.Draft.{Draft}
+use Rattle.plan.proofs.Sizes.{start_all}
 
-module _ (f : Arithmetic) (k : ℕ) (codes : List ℕ) (n : ℕ) (whole : n ≡ length codes / modulus_codes) where
-  pub moduli_are : held_moduli n codes ≡ (handed_in f k codes).moduli
-  moduli_are = ap (λ m. held_moduli m codes) whole
-
+module _ (f : Arithmetic) (draft : Draft) where
   -- The last start is where the word ends.
-  pub end_is : (starts : List ℕ) → StartsAgree n codes starts → get_or starts n 0 ≡ word_length (handed_in f k codes)
-  end_is starts agree =
-      agree n (omega arith)
-      ∙ ap total_degree (take_all n (held_moduli n codes) (omega (arith, held_length n codes)))
-      ∙ ap total_degree moduli_are
+  pub end_is : (starts : List ℕ) → StartsAgree (drafted f draft) starts → get_or starts (length draft.moduli.now) 0 ≡ word_length (drafted f draft)
+  end_is starts agree = agree (length draft.moduli.now) (omega arith) ∙ start_all (drafted f draft)
 
-  -- A table that holds the same moduli.
-  module _ (table : List ℕ) (same : held_moduli n table ≡ held_moduli n codes) where
-    pub starts_kept : (starts : List ℕ) → StartsAgree n codes starts → StartsAgree n table starts
-    starts_kept starts agree i h = agree i h ∙ ap (λ ms. total_degree (take i ms)) (sym same)
+  -- A table that begins with the draft's moduli keeps its scheme.
+  pub table_keeps : (table : List (List ℕ)) → take (length draft.moduli.now) table ≡ draft.moduli.now
+      → drafted f draft ≡ kept f draft.carriers (length draft.moduli.now) table
+  table_keeps table same = ap (λ (moduli : List (List ℕ)). record { arithmetic = f; carriers = draft.carriers; moduli = moduli }) (sym same)
 
-    pub monic_kept : AreModuli (handed_in f k codes) → AreMonic (held_moduli n table)
-    monic_kept ok = subst (λ (ms : List (List ℕ)). AreMonic ms) (sym (same ∙ moduli_are)) (λ i h. ((ok i h).proper, (ok i h).leading))
-
-    pub total_kept : total_degree (held_moduli n table) ≡ word_length (handed_in f k codes)
-    total_kept = ap total_degree (same ∙ moduli_are)
-
-    pub scheme_kept : ◌≡◌ {A = Scheme} (record { arithmetic = f; carriers = k; moduli = held_moduli n table }) (handed_in f k codes)
-    scheme_kept = ap (λ (ms : List (List ℕ)). record { arithmetic = f; carriers = k; moduli = ms }) (same ∙ moduli_are)
-
-  pub accepted : IsShaped k codes → AreModuli (handed_in f k codes) → word_length (handed_in f k codes) ≤ most_total
-      → ((i j : ℕ) → i < j → j < n → ¬ (Clash (handed_in f k codes) i j)) → Accepted f k codes
-  accepted shaped ok short apart =
-      let positions_are = handed_positions f k codes in
+  -- A draft is lawful once its moduli are, their degrees do not sum to too much, and no two share a factor.
+  pub lawful : AreModuli (drafted f draft) → word_length (drafted f draft) ≤ most_total
+      → ((i j : ℕ) → i < j → j < length draft.moduli.now → ¬ (Clash (drafted f draft) i j)) → IsScheme (drafted f draft)
+  lawful moduli short apart =
       record {
-        shaped = shaped;
-        lawful =
-            record {
-              enough = omega (arith, shaped.enough);
-              few = omega (arith, shaped.few);
-              carrying = shaped.carrying;
-              spare = omega (arith, shaped.spare);
-              moduli_lawful = ok;
-              short = short;
-              apart = λ i j h l. apart i j h (omega arith);
-            };
+        enough = draft.enough;
+        few = draft.few;
+        carrying = draft.carrying;
+        spare = draft.spare;
+        moduli_lawful = moduli;
+        short = short;
+        apart = apart;
       }

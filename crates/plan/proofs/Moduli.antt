@@ -1,5 +1,5 @@
 -- Whether a list of codes is a modulus, from the tests that decide it.
-use Rattle.std.proofs.Common.{◌≡◌, ℕ, ◌<◌, ◌≤◌, true, false, eqb, List, get_or, is_some, Some, None, Decides, Option, sym, ap, ◌∙◌, arith, MatchOption}
+use Rattle.std.proofs.Common.{◌≡◌, ℕ, ◌<◌, ◌≤◌, true, false, eqb, List, get_or, is_some, Some, None, Decides, Option, sym, ap, ◌∙◌, subst, arith, MatchOption}
 use Rattle.std.proofs.lemmas.Bool.{eqb-true, eq-eqb, false≢true, true≢false}
 use Rattle.algebra.specs.Field.{Arithmetic}
 use Rattle.algebra.specs.Polynomial.{coefficients}
@@ -27,3 +27,6 @@ module _ (f : Arithmetic) (m : List ℕ) where
     λ t. record { codes = codes; proper = omega arith; leading = ap (coefficients m) (sym e) ∙ eqb-true (get_or m d 0) 1 t },
     λ is. eq-eqb (get_or m d 0) 1 (ap (coefficients m) e ∙ is.leading),
   )
+
+pub at_none : {X : Type 0} (o : Option X) (P : Type 0) (Q : X → Type 0) → o ≡ None → P → MatchOption o P Q
+at_none o P Q e p = subst (λ o. MatchOption o P Q) (sym e) p

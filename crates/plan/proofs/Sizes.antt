@@ -1,5 +1,5 @@
 -- The sizes of a scheme: what `extent` says of a polynomial, where positions begin, and how a word is made of its residues.
-use Rattle.std.proofs.Common.{◌≡◌, ℕ, zero, suc, ◌+◌, ◌<◌, ◌≤◌, ◌⊎◌, List, [], ◌∷◌, ◌++◌, map, length, take, drop, sym, refl, ap, ◌∙◌, inl, inr, add-one, arith}
+use Rattle.std.proofs.Common.{◌≡◌, ℕ, zero, suc, ◌+◌, ◌<◌, ◌≤◌, ◌⊎◌, List, [], ◌∷◌, ◌++◌, map, length, get_or, take, drop, sym, refl, ap, ◌∙◌, inl, inr, add-one, arith}
 use native.Mathlib.Decide.{dec_lt}
 use Rattle.std.specs.List.{range_with_len}
 use Rattle.std.proofs.lemmas.List.FromFn.{map-range_with_len_more}
@@ -96,6 +96,12 @@ total_degree_take i ms =
     let whole = ap total_degree (take-append-drop i ms) in
     omega arith
 
+pub total_degree_next : (ms : List (List ℕ)) (i : ℕ) → i < length ms → total_degree (take (i + 1) ms) ≡ total_degree (take i ms) + degree_of (get_or ms i [])
+total_degree_next ms i l =
+    let here = ap total_degree (take_more ms i [] l) in
+    let parts = total_degree_append (take i ms) (get_or ms i [] ∷ []) in
+    omega arith
+
 -- Lists joined after others.
 pub joined_append : (rs ts : List (List ℕ)) → joined (rs ++ ts) ≡ joined rs ++ joined ts
 joined_append [] ts = refl
@@ -107,10 +113,7 @@ module _ (s : Scheme) where
   start_none = refl
 
   pub start_next : (i : ℕ) → i < positions s → start s (i + 1) ≡ start s i + degree s i
-  start_next i l =
-      let here = ap total_degree (take_more s.moduli i [] l) in
-      let parts = total_degree_append (take i s.moduli) (modulus s i ∷ []) in
-      omega arith
+  start_next i l = total_degree_next s.moduli i l
 
   pub start_past : (i : ℕ) → positions s ≤ i → start s i ≡ word_length s
   start_past i l = ap total_degree (take_all i s.moduli l)

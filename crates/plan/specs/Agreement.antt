@@ -1,12 +1,12 @@
--- What ties the starts in a plan's record to its moduli.
-use Rattle.std.specs.Prelude.{◌≡◌, ℕ, ◌<◌, ◌≤◌, List, [], length, take, slice_index, slice_index_or}
-use Rattle.plan.specs.Limits.{least_degree}
-use Rattle.plan.specs.Schemes.{degree_of, held_moduli, total_degree}
+-- The scheme that a plan's tables hold, and what ties the starts to it.
+use Rattle.std.specs.Prelude.{◌≡◌, ℕ, ◌≤◌, List, take, slice_index}
+use Rattle.algebra.specs.Field.{Arithmetic}
+use Rattle.plan.specs.Schemes.{Scheme, positions, start}
+
+-- The first n moduli of a table, with k and the field's arithmetic.
+abbrev pub kept : Arithmetic → ℕ → ℕ → List (List ℕ) → Scheme
+kept f k n table = record { arithmetic = f; carriers = k; moduli = take n table }
 
 -- Each start is the sum of the degrees before it; the last is where the word ends.
-abbrev pub StartsAgree : ℕ → List ℕ → List ℕ → Type 0
-StartsAgree n codes starts = (i : ℕ) → i ≤ n → slice_index starts i ≡ total_degree (take i (held_moduli n codes))
-
--- Every modulus has degree 1 or more and leading code 1, which needs no field to say.
-abbrev pub AreMonic : List (List ℕ) → Type 0
-AreMonic ms = (i : ℕ) → i < length ms → (least_degree ≤ degree_of (slice_index_or ms i [])) × (slice_index (slice_index_or ms i []) (degree_of (slice_index_or ms i [])) ≡ 1)
+abbrev pub StartsAgree : Scheme → List ℕ → Type 0
+StartsAgree s starts = (i : ℕ) → i ≤ positions s → slice_index starts i ≡ start s i

@@ -1,7 +1,8 @@
 -- The scheme that a plan holds.
-use Rattle.algebra.specs.Field.{Arithmetic}
-use Rattle.plan.specs.Schemes.{held_moduli, Scheme}
-use Rattle.plan.specs.declared.record.Record.{Record}
+use Rattle.field.specs.declared.Field as field
+use Rattle.plan.specs.Agreement.{kept}
+use Rattle.plan.specs.Schemes.{Scheme}
+use Rattle.plan.specs.declared.plans.Plan.{Plan}
 
-abbrev pub scheme : Arithmetic → Record → Scheme
-scheme f r = record { arithmetic = f; carriers = r.carriers; moduli = held_moduli r.positions r.codes }
+abbrev pub scheme : {F : Type 0} {fields : field.Ghosts F} → Plan F fields → Scheme
+scheme {fields = fields} plan = kept fields.arithmetic plan.carriers plan.positions plan.moduli

@@ -1,12 +1,13 @@
 // Encoding a message as its remainder word.
-ghost use Rattle.std.specs.Prelude.{◌≡◌, ◌<◌, true, length, is_ok};
+ghost use Rattle.std.specs.Prelude.{◌≡◌, ◌<◌, true, length, take, is_ok};
 ghost use Rattle.plan.specs.Held.{scheme};
 ghost use Rattle.plan.specs.Refusals.{Encoded, HoldsRemainders};
-ghost use Rattle.plan.specs.Schemes.{IsScheme, degree, positions, residue, word, word_length};
+ghost use Rattle.plan.specs.Schemes.{degree, positions, residue, word, word_length};
 
-use crate::Plan;
+use crate::codes::first_no_code;
 use crate::faults::EncodeFault;
-use crate::tests_of_codes::first_no_code;
+use crate::limits::MODULUS_CODES;
+use crate::plans::Plan;
 use field::Field;
 use poly::reduce;
 
@@ -14,8 +15,8 @@ impl<F: Field> Plan<F> {
     /// Fills the buffer with the word of the message: at each position the remainder by its modulus. A refusal leaves the
     /// buffer as it was.
     pub fn encode(&self, message: &[u16], buffer: &mut [u16]) -> Result<(), EncodeFault>
-        ensures answer { Encoded (scheme F.Field.arithmetic self.now.record) message.now buffer.old buffer.new result }
-        ensures remainders { is_ok result ≡ true → IsScheme (scheme F.Field.arithmetic self.now.record) → HoldsRemainders (scheme F.Field.arithmetic self.now.record) message.now buffer.new }
+        ensures answer { Encoded (scheme self.now) message.now buffer.old buffer.new result }
+        ensures remainders { is_ok result ≡ true → HoldsRemainders (scheme self.now) message.now buffer.new }
     {
         if message.len() != self.message_length() {
             return Err(EncodeFault::MessageLength(self.message_length()));
@@ -30,26 +31,30 @@ impl<F: Field> Plan<F> {
         Ok(())
     }
 
-    // The word, whatever the message: each residue goes into its part of the buffer.
-    fn fill(&self, message: &[u16], buffer: &mut [u16])
-        requires { length buffer.old ≡ word_length (scheme F.Field.arithmetic self.now.record) }
-        ensures { buffer.new ≡ word (scheme F.Field.arithmetic self.now.record) message.now }
+    /// What position i holds in the word of the message, the remainder by its modulus, in a table that has zeros after it; all zeros
+    /// past the positions.
+    pub fn residue(&self, i: usize, message: &[u16]) -> [u16; MODULUS_CODES]
+        ensures { take (degree (scheme self.now) i) result ≡ residue (scheme self.now) message.now i }
     {
-        for i in 0..self.positions() {
-            let from = self.start(i);
-            let end = self.start(i + 1);
-            self.fill_position(i, message, &mut buffer[from..end]);
+        let mut table = [0; MODULUS_CODES];
+        let modulus = self.modulus(i);
+        let degree = self.degree(i);
+        if degree > 0 {
+            reduce::<F>(message, &modulus[0..degree + 1], &mut table[0..degree]);
         }
+        table
     }
 
-    // The remainder of the message by modulus i.
-    fn fill_position(&self, i: usize, message: &[u16], part: &mut [u16])
-        requires place { i < positions (scheme F.Field.arithmetic self.now.record) }
-        requires long { length part.old ≡ degree (scheme F.Field.arithmetic self.now.record) i }
-        ensures { part.new ≡ residue (scheme F.Field.arithmetic self.now.record) message.now i }
+    // The word, whatever the message: each residue goes into its part of the buffer.
+    fn fill(&self, message: &[u16], buffer: &mut [u16])
+        requires { length buffer.old ≡ word_length (scheme self.now) }
+        ensures { buffer.new ≡ word (scheme self.now) message.now }
     {
-        let modulus = self.modulus(i);
-        let codes = part.len() + 1;
-        reduce::<F>(message, &modulus[0..codes], part);
+        for i in 0..self.positions() {
+            let residue = self.residue(i, message);
+            let from = self.start(i);
+            let end = self.start(i + 1);
+            buffer[from..end].copy_from_slice(&residue[0..end - from]);
+        }
     }
 }

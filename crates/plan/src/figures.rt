@@ -4,38 +4,37 @@ ghost use Rattle.plan.specs.Held.{scheme};
 ghost use Rattle.plan.specs.Limits.{modulus_codes};
 ghost use Rattle.plan.specs.Schemes.{positions, modulus, degree, start, message_length, word_length};
 
-use crate::Plan;
-use crate::limits::MODULUS_CODES;
+use crate::plans::Plan;
 use field::Field;
 
 impl<F: Field> Plan<F> {
     /// How many positions a word has.
     pub fn positions(&self) -> usize
-        ensures { result ≡ positions (scheme F.Field.arithmetic self.now.record) }
+        ensures { result ≡ positions (scheme self.now) }
     {
-        self.record.positions
+        self.positions
     }
 
     /// k, how many positions carry the message by themselves.
     pub fn carriers(&self) -> usize
-        ensures { result ≡ (scheme F.Field.arithmetic self.now.record).carriers }
+        ensures { result ≡ (scheme self.now).carriers }
     {
-        self.record.carriers
+        self.carriers
     }
 
     /// Where position i of a word starts; the word's length for any i past the positions.
     pub fn start(&self, i: usize) -> usize
-        ensures { result ≡ start (scheme F.Field.arithmetic self.now.record) i }
+        ensures { result ≡ start (scheme self.now) i }
     {
-        self.record.starts[i.min(self.record.positions)]
+        self.starts[i.min(self.positions)]
     }
 
     /// The degree of modulus i, and so the codes that position i has in a word; 0 past the positions.
     pub fn degree(&self, i: usize) -> usize
-        ensures { result ≡ degree (scheme F.Field.arithmetic self.now.record) i }
+        ensures { result ≡ degree (scheme self.now) i }
     {
-        if i < self.record.positions {
-            self.record.starts[i + 1] - self.record.starts[i]
+        if i < self.positions {
+            self.starts[i + 1] - self.starts[i]
         } else {
             0
         }
@@ -43,26 +42,25 @@ impl<F: Field> Plan<F> {
 
     /// N, the codes of a word.
     pub fn word_length(&self) -> usize
-        ensures { result ≡ word_length (scheme F.Field.arithmetic self.now.record) }
+        ensures { result ≡ word_length (scheme self.now) }
     {
-        self.record.starts[self.record.positions]
+        self.starts[self.positions]
     }
 
     /// K, the codes of a message.
     pub fn message_length(&self) -> usize
-        ensures { result ≡ message_length (scheme F.Field.arithmetic self.now.record) }
+        ensures { result ≡ message_length (scheme self.now) }
     {
-        self.record.starts[self.record.carriers]
+        self.starts[self.carriers]
     }
 
     /// The codes of modulus i as they were handed in; none past the positions.
     pub fn modulus(&self, i: usize) -> &[u16]
-        ensures value { result.now ≡ modulus (scheme F.Field.arithmetic self.now.record) i }
-        ensures long { i < positions (scheme F.Field.arithmetic self.now.record) → length result.now ≡ modulus_codes }
+        ensures value { result.now ≡ modulus (scheme self.now) i }
+        ensures long { i < positions (scheme self.now) → length result.now ≡ modulus_codes }
     {
-        if i < self.record.positions {
-            let from = i * MODULUS_CODES;
-            &self.record.codes[from..from + MODULUS_CODES]
+        if i < self.positions {
+            &self.moduli[i]
         } else {
             &[]
         }

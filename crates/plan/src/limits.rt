@@ -1,4 +1,4 @@
-// The limits of a plan, each under one name, and the sizes of the tables that follow from them.
+// The limits of a plan, each under one name, and the size of the table that follows from them.
 
 /// A modulus is handed in as this many codes, so its degree is at most 8.
 pub const MODULUS_CODES: usize = 9;
@@ -13,8 +13,5 @@ pub const MOST_POSITIONS: usize = 24;
 /// The degrees of all moduli sum to this at most.
 pub const MOST_TOTAL: usize = 64;
 
-/// `MODULUS_CODES` for each of `MOST_POSITIONS`.
-pub const CODES_TABLE: usize = 216;
-
 /// One start for each position, and the end of the last.
-pub const STARTS_TABLE: usize = 25;
+pub const STARTS_TABLE: usize = MOST_POSITIONS + 1;

@@ -12,4 +12,4 @@ pub returns-else-d-lt0 : goal.returns-else-d-lt0
 returns-else-d-lt0 c =
     let fits : SFits w32 c.degree-d.result = search rules in
     let value = some_degree c.args.m.now c.degree-d.result fits c.degree-d.ensures c.if-d-lt0.false in
-    record { value = value; bound = omega (arith, value, c.requires, extent_length c.args.m.now) }
+    record { value = value; bound = omega (arith, value, c.told-m, extent_length c.args.m.now) }
