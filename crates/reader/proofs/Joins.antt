@@ -1,5 +1,5 @@
 -- One more modulus: what makes its residue right, and what the state is afterwards.
-use Rattle.std.proofs.Common.{◌≡◌, ℕ, suc, ◌+◌, ◌<◌, List, length, sym, subst, arith}
+use Rattle.std.proofs.Common.{◌≡◌, ℕ, suc, ◌+◌, ◌-◌, ◌<◌, ◌≤◌, List, length, take, sym, subst, arith}
 use Rattle.algebra.specs.Field.{Arithmetic, FieldLaws}
 use Rattle.algebra.specs.Moduli.{Congruent, Coprime, one}
 use Rattle.algebra.specs.Polynomial.{Below, HasDegree, IsPolynomial, add, coefficients, multiply, subtract}
@@ -8,8 +8,8 @@ use Rattle.algebra.proofs.Coefficients.{below_more, coefficients_below, degree_m
 use Rattle.algebra.proofs.Reading.{joined_below, joined_new, joined_old}
 use Rattle.algebra.proofs.Residues.{congruent_division, congruent_multiply, congruent_refl, congruent_trans, coprime_not_shared, not_shared_coprime, remainder_congruent, share_factor_back}
 use Rattle.poly.specs.Slices.{Codes, capacity}
-use Rattle.reader.specs.Joining.{IsPair, IsState, JoinedBy}
-use Rattle.reader.specs.declared.joining.Joined.{Joined}
+use Rattle.reader.specs.States.{IsPair, IsState}
+use Rattle.reader.proofs.Tables.{front_codes, front_same}
 
 -- The modulus of a pair.
 pub pair_degree : (f : Arithmetic) (m y : List ℕ) → IsPair f m y → HasDegree (length y) (coefficients m)
@@ -47,39 +47,42 @@ module _ (f : Arithmetic) (L : FieldLaws f) (d : ℕ) (m M Y y : ℕ → ℕ) (h
       joined_new f L d m M w Y y left.by c hm hM hw hY hy inverse
       (congruent_division f L d (multiply f (subtract f y Y) w) m c hyYw hm hc C.division.remainder_below left)
 
+-- The front of M that has its codes is M.
+pub product_front : (f : Arithmetic) (M Y : List ℕ) (D : ℕ) → IsState f M Y D → D + 1 ≤ length M
+    → (coefficients (take (D + 1 - 0) M) ≡ coefficients M) × Codes f (take (D + 1 - 0) M)
+product_front f M Y D state l =
+    let below : Below (D + 1) (coefficients M) = below_more (suc D) (D + 1) (coefficients M) (omega arith) state.has_degree.above in
+    (front_same M (D + 1) below l, front_codes f M (D + 1) below l state.product_codes)
+
 -- The state afterwards.
-module _ (f : Arithmetic) (L : FieldLaws f) (m y : List ℕ) (before after : Joined) (state : IsState f before) (pair : IsPair f m y) (c : List ℕ) (hc : Codes f c) where
+module _ (f : Arithmetic) (L : FieldLaws f) (m y product value : List ℕ) (degree : ℕ) (state : IsState f product value degree) (pair : IsPair f m y)
+    (c product' value' : List ℕ) (hc : Codes f c) where
   abbrev M : ℕ → ℕ
-  M = coefficients before.product
+  M = coefficients product
 
   abbrev Y : ℕ → ℕ
-  Y = coefficients before.value
+  Y = coefficients value
 
-  pub joins : before.degree + length y < capacity → Below (length y) (coefficients c)
-      → (Coprime f M (coefficients m) → Congruent f (coefficients m) (add f Y (multiply f M (coefficients c))) (coefficients y))
-      → Codes f after.product → Codes f after.value → after.degree ≡ before.degree + length y → coefficients after.product ≡ multiply f M (coefficients m)
-      → coefficients after.value ≡ add f Y (multiply f M (coefficients c)) → JoinedBy f m y before after
-  joins room low closed kp kv degree_is product_is value_is =
-      let hM = list_polynomial f L before.product state.product_codes in
-      let hY = list_polynomial f L before.value state.value_codes in
+  pub next_state : degree + length y < capacity → Below (length y) (coefficients c) → Codes f product' → Codes f value'
+      → coefficients product' ≡ multiply f M (coefficients m) → coefficients value' ≡ add f Y (multiply f M (coefficients c))
+      → IsState f product' value' (degree + length y)
+  next_state room low kp kv product_is value_is =
+      let hM = list_polynomial f L product state.product_codes in
+      let hY = list_polynomial f L value state.value_codes in
       let hm = list_polynomial f L m pair.codes in
       let hC = list_polynomial f L c hc in
       record {
-        state =
-            record {
-              fits = omega arith;
-              product_codes = kp;
-              value_codes = kv;
-              has_degree =
-                  rw (degree_is, product_is)
-                  (degree_multiply f L before.degree (length y) M (coefficients m) hM hm state.has_degree (pair_degree f m y pair));
-              below =
-                  subst (λ (n : ℕ). Below n (coefficients after.value)) (sym degree_is)
-                  (subst (λ (x : ℕ → ℕ). Below (before.degree + length y) x) (sym value_is)
-                  (joined_below f L before.degree (length y) M Y (coefficients c) hM hY hC state.has_degree state.below low));
-            };
-        degree_is = degree_is;
-        product_is = product_is;
-        old = subst (λ (x : ℕ → ℕ). Congruent f M x Y) (sym value_is) (joined_old f L M Y (coefficients c) hM hY hC);
-        new = λ coprime. subst (λ (x : ℕ → ℕ). Congruent f (coefficients m) x (coefficients y)) (sym value_is) (closed coprime);
+        fits = room;
+        product_codes = kp;
+        value_codes = kv;
+        has_degree =
+            subst (HasDegree (degree + length y)) (sym product_is)
+            (degree_multiply f L degree (length y) M (coefficients m) hM hm state.has_degree (pair_degree f m y pair));
+        below = subst (Below (degree + length y)) (sym value_is) (joined_below f L degree (length y) M Y (coefficients c) hM hY hC state.has_degree state.below low);
       }
+
+  pub next_old : coefficients value' ≡ add f Y (multiply f M (coefficients c)) → Congruent f M (coefficients value') Y
+  next_old value_is =
+      subst (λ (x : ℕ → ℕ). Congruent f M x Y) (sym value_is)
+      (joined_old f L M Y (coefficients c) (list_polynomial f L product state.product_codes) (list_polynomial f L value state.value_codes)
+      (list_polynomial f L c hc))

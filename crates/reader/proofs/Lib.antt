@@ -1,3 +1,4 @@
+pub mod Calls
 pub mod Completeness
 pub mod Gathers
 pub mod Inverting

@@ -1,69 +1,41 @@
 -- Euclid's extended algorithm stopped half-way, and the division of its remainder by its factor.
-use Rattle.std.proofs.Common.{◌≡◌, ℕ, ◌+◌, ◌-◌, ◌*◌, ◌<◌, ◌≤◌, List, ap, ◌∙◌, subst, arith}
+use Rattle.std.proofs.Common.{◌≡◌, ℕ, ◌+◌, ◌-◌, ◌*◌, ◌<◌, ◌≤◌, ap, ◌∙◌, subst, inl, inr, arith}
 use Rattle.algebra.specs.Field.{Arithmetic, FieldLaws}
 use Rattle.algebra.specs.Polynomial.{Below, HasDegree, IsDivision, IsPolynomial, add, coefficients, multiply}
 use Rattle.algebra.specs.Theorems.{Stopped}
 use Rattle.algebra.proofs.Coefficients.{add_nought, below_nought, degree_one_only, multiply_comm, multiply_polynomial}
-use Rattle.poly.specs.Slices.{Significant, capacity}
+use Rattle.poly.specs.Extended.{Steps}
+use Rattle.poly.specs.Slices.{Significant}
 use Rattle.poly.specs.declared.steps.Euclid.{Euclid}
-use Rattle.poly.proofs.Fronts.{significant_degree}
-use Rattle.reader.specs.declared.joining.Joined.{Joined}
+use Rattle.poly.proofs.Descending.{before_last}
 use Rattle.reader.proofs.Completeness.{exact_quotient}
 use Rattle.reader.proofs.Inverting.{Reached}
 
--- The loop: the remainder before the current one is not yet below (D + K)/2.
-pub record Halving (f : Arithmetic) (K : ℕ) (j : Joined) (e : Euclid) (count : ℕ) : Type 0 where
-  pub reached : Reached f j.degree (coefficients j.product) (coefficients j.value) e
-  pub counted : Significant (coefficients e.current) count
-  pub short : count ≤ capacity
-  pub above : (n : ℕ) → HasDegree n (coefficients e.previous) → j.degree + K ≤ 2 * n
-
-module _ (f : Arithmetic) (K : ℕ) (j : Joined) (e : Euclid) (count : ℕ) where
-  pub halving_starts : K ≤ j.degree → HasDegree j.degree (coefficients j.product) → coefficients e.previous ≡ coefficients j.product
-      → Reached f j.degree (coefficients j.product) (coefficients j.value) e → Significant (coefficients e.current) count → count ≤ capacity
-      → Halving f K j e count
-  halving_starts l h same R s short =
-      record {
-        reached = R;
-        counted = s;
-        short = short;
-        above =
-            λ n g.
-            let g' : HasDegree n (coefficients j.product) = subst (HasDegree n) same g in
-            let one = degree_one_only n j.degree (coefficients j.product) g' h in
-            omega arith;
-      }
-
-  pub halving_again : (e' : Euclid) (count' : ℕ) → Halving f K j e count → j.degree + K + 2 ≤ 2 * count → e'.previous ≡ e.current
-      → Reached f j.degree (coefficients j.product) (coefficients j.value) e' → Significant (coefficients e'.current) count' → count' ≤ capacity
-      → Halving f K j e' count'
-  halving_again e' count' H l same R s short =
-      record {
-        reached = R;
-        counted = s;
-        short = short;
-        above =
-            λ n g.
-            let g' : HasDegree n (coefficients e.current) = subst (λ (x : List ℕ). HasDegree n (coefficients x)) same g in
-            let one = degree_one_only n (count - 1) (coefficients e.current) g' (significant_degree (coefficients e.current) count H.counted (omega arith)) in
-            omega arith;
-      }
-
-  pub halving_stops : Halving f K j e count → 2 * count < j.degree + K + 2
-      → Stopped f j.degree K (coefficients j.product) (coefficients j.value) (coefficients e.current) (coefficients e.t_current)
-  halving_stops H l =
-      let R = H.reached in
+module _ (f : Arithmetic) (D K : ℕ) (M Y : ℕ → ℕ) (begun e : Euclid) where
+  -- Run down to half of D + K codes, rounded up.
+  pub halved : (most n : ℕ) → K ≤ D → HasDegree D M → coefficients begun.previous ≡ M → D + K ≤ 2 * most → 2 * most ≤ D + K + 1
+      → Steps f most n begun e → Below most (coefficients e.current) → Reached f D M Y e
+      → Stopped f D K M Y (coefficients e.current) (coefficients e.t_current)
+  halved most n l h begins low high steps few R =
       record {
         r_polynomial = R.current_polynomial;
         t_polynomial = R.t_polynomial;
         s = R.s;
         s_polynomial = R.s_polynomial;
         r_is = R.current_is;
-        r_below = λ i b. H.counted.above i (omega arith);
+        r_below = λ i b. few i (omega arith);
         t_degree = R.t_degree;
         t_has = R.t_has;
         before = R.previous_degree;
-        before_not_below = H.above R.previous_degree R.previous_has;
+        before_not_below =
+            elim (before_last f most n R.previous_degree begun e steps R.previous_has) [
+              | inl same ↦
+                  let first : HasDegree R.previous_degree M =
+                  subst (HasDegree R.previous_degree) begins (subst (λ (x : Euclid). HasDegree R.previous_degree (coefficients x.previous)) same R.previous_has) in
+                  let one = degree_one_only R.previous_degree D M first h in
+                  omega arith
+              | inr above ↦ omega arith
+            ];
         degrees = R.degrees;
       }
 

@@ -1,36 +1,34 @@
 -- Which positions are gathered for the search, and what is joined of them.
-use Rattle.std.specs.Prelude.{◌≡◌, ℕ, ◌<◌, Bool, true, not, ◌&&◌, List, [], ◌∷◌, take, drop, ◌==◌, nat_lt, slice_index}
+use Rattle.std.specs.Prelude.{◌≡◌, ℕ, ◌<◌, Bool, cond, ◌&&◌, List, length, is_some, Some, None, Option, ◌==◌, nat_lt}
+use Rattle.std.specs.List.{list_all}
 use Rattle.algebra.specs.Moduli.{Congruent, chosen, chosen_degrees, product_of, total}
 use Rattle.algebra.specs.Polynomial.{coefficients}
-use Rattle.plan.specs.Schemes.{IsScheme, Scheme, degree, modulus, start}
-use Rattle.reader.specs.Joining.{IsState}
-use Rattle.reader.specs.declared.joining.Joined.{Joined}
+use Rattle.plan.specs.Accounts.{Account}
+use Rattle.plan.specs.Schemes.{Scheme, degree, modulus}
 
 -- Every number is below q.
 abbrev pub all_below : ℕ → List ℕ → Bool
-all_below q [] = true
-all_below q (x ∷ xs) = nat_lt x q && all_below q xs
+all_below q xs = list_all (λ x. nat_lt x q) xs
 
--- A position is of use if its mark is not 0 and its residue holds codes only: a number that is no code is wrong for every
--- message. Its modulus must hold codes as well, as that of every lawful scheme does.
-abbrev pub usable : ℕ → ℕ → List ℕ → List ℕ → Bool
-usable q mark residue modulus = not (mark == 0) && (all_below q residue && all_below q modulus)
+-- A residue can be used at position i if it has as many numbers as the position, and all of them are codes. Any other is wrong
+-- for every message.
+abbrev pub is_usable : Scheme → ℕ → List ℕ → Bool
+is_usable s i y = length y == degree s i && all_below s.arithmetic.order y
 
--- What has arrived for position i.
-abbrev pub part : Scheme → List ℕ → ℕ → List ℕ
-part s residues i = take (degree s i) (drop (start s i) residues)
+-- What has arrived for position i, if it can be used.
+abbrev pub usable : Scheme → ℕ → Option (List ℕ) → Option (List ℕ)
+usable s i None = None
+usable s i (Some y) = cond (is_usable s i y) (Some y) None
 
-module _ (s : Scheme) (residues marks : List ℕ) where
+module _ (s : Scheme) (account : Account) where
   -- The positions that are kept.
   abbrev pub kept : ℕ → Bool
-  kept i = usable s.arithmetic.order (slice_index marks i) (part s residues i) (modulus s i)
+  kept i = is_some (usable s i (account i))
 
-  -- Of the first n positions the kept ones are joined: M is the product of their moduli, D the sum of their degrees, and, where
-  -- the scheme is lawful, Y leaves their residues.
-  pub record GatheredTo (n : ℕ) (j : Joined) : Type 0 where
-    pub state : IsState s.arithmetic j
-    pub degree_is : j.degree ≡ total (chosen_degrees kept (degree s)) n
-    pub product_is : coefficients j.product ≡ product_of s.arithmetic (chosen kept (λ i. coefficients (modulus s i))) n
+  -- Of the first n positions the kept ones are joined: M is the product of their moduli, D the sum of their degrees, and Y
+  -- leaves their residues.
+  pub record GatheredTo (n D : ℕ) (M Y : ℕ → ℕ) : Type 0 where
+    pub degree_is : D ≡ total (chosen_degrees kept (degree s)) n
+    pub product_is : M ≡ product_of s.arithmetic (chosen kept (λ i. coefficients (modulus s i))) n
     pub congruent :
-        IsScheme s → (i : ℕ) → i < n → kept i ≡ true
-        → Congruent s.arithmetic (coefficients (modulus s i)) (coefficients j.value) (coefficients (part s residues i))
+        (i : ℕ) (y : List ℕ) → i < n → usable s i (account i) ≡ Some y → Congruent s.arithmetic (coefficients (modulus s i)) Y (coefficients y)

@@ -1,5 +1,6 @@
 pub mod Answers
+pub mod Arrivals
 pub mod Finding
 pub mod Gathering
 pub mod Joining
-pub mod Received
+pub mod States

@@ -1,19 +1,39 @@
 // What a reader answers.
-ghost use Rattle.reader.specs.Answers.{reader_ground};
+ghost use Rattle.std.specs.Prelude.{◌≡◌, take};
+ghost use Rattle.plan.specs.Held.{scheme};
+ghost use Rattle.plan.specs.Schemes.{message_length};
+ghost use Rattle.reader.specs.Answers.{message_of, reader_ground};
 
 use fault::{Fault, Ground, Layer};
-use plan::MOST_TOTAL;
+use field::Field;
+use plan::{MOST_TOTAL, Plan};
 
 /// The codes that a message may have, so the codes of a message's table.
 pub const MESSAGE_TABLE: usize = MOST_TOTAL;
 
-/// The message within the allowance: its codes, of which the plan's first K count; its margin; and e, the degrees of the
-/// present positions whose residue differs from the message's.
-#[derive(Clone, Copy)]
+/// The message within the allowance: a table, of which the plan's first K codes count, since nothing is allocated; its margin;
+/// and e, the degrees of the present positions whose residue differs from the message's.
+#[derive(Clone, Copy, PartialEq, Eq, Debug)]
 pub struct Reading {
     pub message: [u16; MESSAGE_TABLE],
     pub margin: i32,
     pub wrong: usize,
+}
+
+/// The message in a table: its first K codes.
+pub(crate) fn message_in<'a, F: Field>(plan: &Plan<F>, table: &'a [u16; MESSAGE_TABLE]) -> &'a [u16]
+    ensures { result.now ≡ take (message_length (scheme plan.now)) table.now }
+{
+    &table[0..plan.message_length()]
+}
+
+impl Reading {
+    /// The codes of the message.
+    pub fn codes<F: Field>(&self, plan: &Plan<F>) -> &[u16]
+        ensures { result.now ≡ message_of (scheme plan.now) self.now }
+    {
+        message_in(plan, &self.message)
+    }
 }
 
 /// Why there is no reading.

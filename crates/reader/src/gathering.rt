@@ -1,67 +1,69 @@
-// Gathering what has arrived: the residues of the positions that are present and hold codes, joined into one polynomial.
-ghost use Rattle.std.specs.Prelude.{◌≡◌, ◌+◌, ◌<◌, Decides};
+// Gathering what has arrived: the residues that can be used, joined into one polynomial.
+ghost use Rattle.std.specs.Prelude.{◌≡◌, ◌<◌, Decides, Some, None, MatchOption};
+ghost use Rattle.std.specs.Option.{option_copied};
+ghost use Rattle.algebra.specs.Polynomial.{coefficients};
 ghost use Rattle.plan.specs.Held.{scheme};
-ghost use Rattle.plan.specs.Schemes.{positions};
+ghost use Rattle.plan.specs.Schemes.{modulus, positions};
 ghost use Rattle.poly.specs.Slices.{Codes};
-ghost use Rattle.reader.specs.Gathering.{GatheredTo, usable};
+ghost use Rattle.reader.specs.Arrivals.{account_of};
+ghost use Rattle.reader.specs.Gathering.{GatheredTo, is_usable, usable};
 
+use crate::arrived::Arrived;
+use crate::congruence::Congruence;
 use crate::joining::Joined;
-use crate::tally::{MARKS_TABLE, MISSING, WORD_TABLE, part_at};
 use field::Field;
-use plan::Plan;
+use plan::first_no_code;
+use std::marker::PhantomData;
 
-/// Whether every number is a code of the field.
+// Whether every number is a code of the field.
 fn all_codes<F: Field>(numbers: &[u16]) -> bool
     ensures { Decides result (Codes F.Field.arithmetic numbers.now) }
 {
-    for number in numbers {
-        if *number >= F::size() {
-            return false;
+    first_no_code::<F>(numbers).is_none()
+}
+
+impl<'a, F: Field> Arrived<'a, F> {
+    // Whether a residue can be used at position i: it has as many codes as the position.
+    fn is_usable(&self, i: usize, residue: &[u16]) -> bool
+        ensures { result ≡ is_usable (scheme self.now.plan.now) i residue.now }
+    {
+        residue.len() == self.plan.degree(i) && all_codes::<F>(residue)
+    }
+
+    // The residue of position i, if it can be used.
+    fn usable_residue(&self, i: usize) -> Option<&'a [u16]>
+        ensures { option_copied result ≡ usable (scheme self.now.plan.now) i (account_of self.now.residues.now i) }
+    {
+        match self.residue(i) {
+            Some(residue) if self.is_usable(i, residue) => Some(residue),
+            _ => None,
         }
     }
-    true
-}
 
-/// Whether a position is kept for the search, by its mark, its residue and its modulus.
-fn is_kept<F: Field>(mark: u8, residue: &[u16], modulus: &[u16]) -> bool
-    ensures { result ≡ usable F.Field.arithmetic.order mark residue.now modulus.now }
-{
-    if mark == MISSING {
-        return false;
+    // That residue with its modulus.
+    fn congruence(&self, i: usize) -> Option<Congruence<'a, F>>
+        requires { i < positions (scheme self.now.plan.now) }
+        ensures { MatchOption result (usable (scheme self.now.plan.now) i (account_of self.now.residues.now i) ≡ None) (λ pair. (usable (scheme self.now.plan.now) i (account_of self.now.residues.now i) ≡ Some pair.residue.now) × (coefficients pair.modulus.now ≡ coefficients (modulus (scheme self.now.plan.now) i))) }
+    {
+        let residue = self.usable_residue(i)?;
+        Some(Congruence {
+            field: PhantomData,
+            modulus: &self.plan.modulus(i)[0..residue.len() + 1],
+            residue,
+        })
     }
-    all_codes::<F>(residue) && all_codes::<F>(modulus)
-}
 
-/// Takes in position i, if it is kept.
-fn take_in<F: Field>(
-    joined: &mut Joined,
-    plan: &Plan<F>,
-    residues: &[u16; WORD_TABLE],
-    marks: &[u8; MARKS_TABLE],
-    i: usize,
-)
-    requires place { i < positions (scheme F.Field.arithmetic plan.now.record) }
-    requires so_far { GatheredTo (scheme F.Field.arithmetic plan.now.record) residues.now marks.now i joined.old }
-    ensures { GatheredTo (scheme F.Field.arithmetic plan.now.record) residues.now marks.now (i + 1) joined.new }
-{
-    let residue = part_at(plan, residues, i);
-    let modulus = plan.modulus(i);
-    if is_kept::<F>(marks[i], residue, modulus) {
-        joined.join::<F>(&modulus[0..residue.len() + 1], residue);
+    /// All residues that can be used, joined.
+    pub(crate) fn gather(&self) -> Joined<F>
+        ensures { GatheredTo (scheme self.now.plan.now) (account_of self.now.residues.now) (positions (scheme self.now.plan.now)) result.degree (coefficients result.product) (coefficients result.value) }
+    {
+        let mut joined = Joined::start();
+        // No chain: that there is room for the next one follows from what is joined so far.
+        for i in 0..self.plan.positions() {
+            if let Some(next) = self.congruence(i) {
+                joined.join(&next);
+            }
+        }
+        joined
     }
-}
-
-/// All kept positions, joined.
-pub(crate) fn gather<F: Field>(
-    plan: &Plan<F>,
-    residues: &[u16; WORD_TABLE],
-    marks: &[u8; MARKS_TABLE],
-) -> Joined
-    ensures { GatheredTo (scheme F.Field.arithmetic plan.now.record) residues.now marks.now (positions (scheme F.Field.arithmetic plan.now.record)) result }
-{
-    let mut joined = Joined::start();
-    for i in 0..plan.positions() {
-        take_in(&mut joined, plan, residues, marks, i);
-    }
-    joined
 }

@@ -1,65 +1,31 @@
 // Joining residues, one modulus at a time, by the Chinese remainder theorem.
-ghost use Rattle.std.specs.Prelude.{◌≡◌, ◌+◌, ◌-◌, ◌<◌, ◌≤◌, length};
+ghost use Rattle.std.specs.Prelude.{◌≡◌, ◌+◌, ◌<◌, length};
 ghost use Rattle.algebra.specs.Moduli.{Congruent, Coprime, nought, one};
-ghost use Rattle.algebra.specs.Polynomial.{Below, HasDegree, add, coefficients, multiply};
-ghost use Rattle.algebra.specs.Remainder.{IsRemainder};
+ghost use Rattle.algebra.specs.Polynomial.{Below, add, coefficients, multiply};
 ghost use Rattle.poly.specs.Slices.{Codes, capacity};
-ghost use Rattle.reader.specs.Joining.{IsPair, IsState, JoinedBy};
+ghost use Rattle.reader.specs.States.{IsState};
 
+use crate::congruence::Congruence;
 use field::Field;
-use poly::{CAPACITY, Euclid, add_scaled, add_to, multiply, reduce, significant, subtract_from};
+use poly::{CAPACITY, add_to, multiply, subtract_from};
+use std::marker::PhantomData;
 
-/// The product M of the moduli joined so far, its degree, and the polynomial Y of lower degree that leaves their residues.
-#[derive(Clone, Copy)]
-pub(crate) struct Joined {
+/// The product M of the moduli joined so far, its degree, and the polynomial Y of lower degree that leaves their residues. The
+/// tables are of fixed size, since nothing is allocated.
+#[derive(Drop)]
+pub(crate) struct Joined<F: Field> {
+    field: PhantomData<F>,
     pub(crate) product: [u16; CAPACITY],
     pub(crate) value: [u16; CAPACITY],
     pub(crate) degree: usize,
+    ghost state: { IsState F.Field.arithmetic product value degree },
 }
 
-/// The remainder of `p` by a modulus whose leading code is 1 and stands last.
-fn remainder_of<F: Field>(p: &[u16], modulus: &[u16]) -> [u16; CAPACITY]
-    requires least { 2 ≤ length modulus.now }
-    requires fits { length modulus.now ≤ capacity }
-    requires monic { coefficients modulus.now (length modulus.now - 1) ≡ 1 }
-    requires modulus_codes { Codes F.Field.arithmetic modulus.now }
-    requires p_codes { Codes F.Field.arithmetic p.now }
-    ensures divided { IsRemainder F.Field.arithmetic (length modulus.now - 1) (coefficients modulus.now) (coefficients p.now) (coefficients result) }
-    ensures codes { Codes F.Field.arithmetic result }
-{
-    let mut remainder = [0; CAPACITY];
-    let degree = modulus.len() - 1;
-    reduce::<F>(p, modulus, &mut remainder[0..degree]);
-    remainder
-}
+impl<F: Field> Joined<F> {
+    ghost use Rattle.reader.specs.Joining.{JoinedBy};
 
-/// The inverse of `p` modulo a modulus that it is coprime to, by Euclid's extended algorithm; `p` is of lower degree.
-fn inverse_modulo<F: Field>(modulus: &[u16], p: &[u16]) -> [u16; CAPACITY]
-    requires fits { length modulus.now ≤ capacity }
-    requires p_fits { length p.now ≤ capacity }
-    requires has_degree { HasDegree (length modulus.now - 1) (coefficients modulus.now) }
-    requires lower { Below (length modulus.now - 1) (coefficients p.now) }
-    requires modulus_codes { Codes F.Field.arithmetic modulus.now }
-    requires p_codes { Codes F.Field.arithmetic p.now }
-    ensures codes { Codes F.Field.arithmetic result }
-    ensures below { Below (length modulus.now - 1) (coefficients result) }
-    ensures inverts { Coprime F.Field.arithmetic (coefficients modulus.now) (coefficients p.now) → Congruent F.Field.arithmetic (coefficients modulus.now) (multiply F.Field.arithmetic (coefficients result) (coefficients p.now)) one }
-{
-    let mut euclid = Euclid::start(modulus, p);
-    let mut count = significant(&euclid.current);
-    while count > 0 {
-        euclid.step::<F>();
-        count = significant(&euclid.current);
-    }
-    let factor = F::inverse(euclid.previous[0]);
-    let mut inverse = [0; CAPACITY];
-    add_scaled::<F>(&mut inverse, factor, 0, &euclid.t_previous);
-    inverse
-}
-
-impl Joined {
     /// No modulus yet: M = 1 and Y = 0.
-    pub(crate) fn start() -> Joined
+    pub(crate) fn start() -> Joined<F>
         ensures product { coefficients result.product ≡ one }
         ensures value { coefficients result.value ≡ nought }
         ensures degree { result.degree ≡ 0 }
@@ -67,6 +33,7 @@ impl Joined {
         let mut product = [0; CAPACITY];
         product[0] = 1;
         Joined {
+            field: PhantomData,
             product,
             value: [0; CAPACITY],
             degree: 0,
@@ -74,46 +41,42 @@ impl Joined {
     }
 
     /// c of lower degree than the modulus, such that Y + M·c leaves the residue: (y − Y)·M⁻¹, reduced.
-    fn correction<F: Field>(&self, modulus: &[u16], residue: &[u16]) -> [u16; CAPACITY]
-        requires state { IsState F.Field.arithmetic self.now }
-        requires pair { IsPair F.Field.arithmetic modulus.now residue.now }
+    fn correction(&self, next: &Congruence<F>) -> [u16; CAPACITY]
         ensures codes { Codes F.Field.arithmetic result }
-        ensures below { Below (length residue.now) (coefficients result) }
-        ensures closes { Coprime F.Field.arithmetic (coefficients self.now.product) (coefficients modulus.now) → Congruent F.Field.arithmetic (coefficients modulus.now) (add F.Field.arithmetic (coefficients self.now.value) (multiply F.Field.arithmetic (coefficients self.now.product) (coefficients result))) (coefficients residue.now) }
+        ensures below { Below (length next.now.residue.now) (coefficients result) }
+        ensures closes { Coprime F.Field.arithmetic (coefficients self.now.product) (coefficients next.now.modulus.now) → Congruent F.Field.arithmetic (coefficients next.now.modulus.now) (add F.Field.arithmetic (coefficients self.now.value) (multiply F.Field.arithmetic (coefficients self.now.product) (coefficients result))) (coefficients next.now.residue.now) }
     {
-        let degree = residue.len();
-        let inverse = inverse_modulo::<F>(modulus, &remainder_of::<F>(&self.product, modulus));
+        let degree = next.residue.len();
+        let inverse = next.inverse_of(&next.remainder_of(&self.product));
         let mut difference = [0; CAPACITY];
-        add_to::<F>(&mut difference, residue);
+        add_to::<F>(&mut difference, next.residue);
         subtract_from::<F>(&mut difference, &self.value);
-        let gap = remainder_of::<F>(&difference, modulus);
+        let gap = next.remainder_of(&difference);
         let mut scaled = [0; CAPACITY];
         multiply::<F>(&gap[0..degree], &inverse[0..degree], &mut scaled);
-        remainder_of::<F>(&scaled, modulus)
+        next.remainder_of(&scaled)
     }
 
     /// Takes in one more modulus with its residue.
-    pub(crate) fn join<F: Field>(&mut self, modulus: &[u16], residue: &[u16])
-        requires state { IsState F.Field.arithmetic self.old }
-        requires pair { IsPair F.Field.arithmetic modulus.now residue.now }
-        requires room { self.old.degree + length residue.now < capacity }
-        ensures { JoinedBy F.Field.arithmetic modulus.now residue.now self.old self.new }
+    pub(crate) fn join(&mut self, next: &Congruence<F>)
+        requires { self.old.degree + length next.now.residue.now < capacity }
+        ensures { JoinedBy next.now.modulus.now next.now.residue.now self.old self.new }
     {
         let count = self.degree + 1;
         let factor = self.product;
-        let correction = self.correction::<F>(modulus, residue);
+        let correction = self.correction(next);
         let mut addend = [0; CAPACITY];
         multiply::<F>(
             &factor[0..count],
-            &correction[0..residue.len()],
+            &correction[0..next.residue.len()],
             &mut addend,
         );
         let mut value = self.value;
         add_to::<F>(&mut value, &addend);
         let mut product = [0; CAPACITY];
-        multiply::<F>(&factor[0..count], modulus, &mut product);
+        multiply::<F>(&factor[0..count], next.modulus, &mut product);
         self.product = product;
         self.value = value;
-        self.degree += residue.len();
+        self.degree += next.residue.len();
     }
 }

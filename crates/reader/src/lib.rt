@@ -2,6 +2,8 @@
 #![tactic(auto)]
 
 mod answers;
+mod arrived;
+mod congruence;
 mod finding;
 mod gathering;
 mod joining;
@@ -9,5 +11,4 @@ mod reading;
 mod tally;
 
 pub use answers::{MESSAGE_TABLE, ReaderFault, Reading};
-pub use reading::read;
-pub use tally::{MARKS_TABLE, MISSING, WORD_TABLE, measure, missing_degrees, wrong_degrees};
+pub use arrived::{Arrived, received};
