@@ -1,5 +1,5 @@
 -- How the cells of a memory lie in the buffer that it stands on.
-use Rattle.std.specs.Prelude.{◌≡◌, ℕ, ◌*◌, ◌/◌, ◌%◌, ◌^◌, ◌<◌, ◌≤◌, min, Bool, cond, ◌&&◌, List, map, length, take, Some, None, Option, ◌≢◌, nat_le, nat_lt, slice_index}
+use Rattle.std.specs.Prelude.{◌≡◌, ℕ, ◌*◌, ◌/◌, ◌%◌, ◌^◌, ◌<◌, ◌≤◌, min, List, map, length, take, ◌≢◌, slice_index}
 use Rattle.std.proofs.Common.{arith, length-take}
 use Rattle.std.specs.List.{range_with_len}
 use Rattle.memory.specs.Meaning.{Bounded, max_cells, max_top}
@@ -41,13 +41,6 @@ pub held_bounded : (row : List ℕ) (top : ℕ) → 1 ≤ top → top ≤ max_to
 unfolding held
 held_bounded row top low high = record { few = omega (arith, length-take max_cells row); top_low = low; top_high = high }
 
--- The same by the row itself, for the functions that work on the buffer: how many cells a row of n entries gives,
--- what is got at j where the row has the entry x there, and whether v may be set.
+-- how many cells a row of n entries gives
 abbrev pub held_len : ℕ → ℕ
 held_len n = min max_cells n
-
-abbrev pub held_at : ℕ → ℕ → ℕ → Option ℕ
-held_at n j x = cond (nat_lt j (held_len n)) (Some x) None
-
-abbrev pub held_takes : ℕ → ℕ → ℕ → ℕ → Bool
-held_takes n top j v = nat_lt j (held_len n) && nat_le v top

@@ -1,14 +1,16 @@
 //! Cell memories: what a memory is, and the memories over a buffer that the caller lends.
 #![tactic(auto)]
 
-mod bytes;
+mod bits;
+mod cell;
+mod lent;
 mod limits;
 mod meaning;
-mod packed;
-mod words;
+mod returned;
 
-pub use bytes::{ByteCells, set_byte};
+pub use bits::Bit;
+pub use cell::Cell;
+pub use lent::{ByteCells, LentCells, PackedCells, WordCells, set_cell};
 pub use limits::{MAX_CELLS, MAX_TOP};
 pub use meaning::Memory;
-pub use packed::{PackedCells, set_bit};
-pub use words::{WordCells, set_word};
+pub use returned::Returned;

@@ -24,7 +24,8 @@ pub trait Memory {
     fn get(&self, j: usize) -> Option<u16>
         ensures { Gets (cells self.now) (top self.now) j result };
 
-    /// Replaces cell j, and no other, by v. Refuses, and alters nothing, when there is no cell j or v is above the top.
+    /// Replaces cell j, and no other, by v. Refuses, and alters nothing, when there is no cell j or v is above the top. Answers whether it
+    /// was accepted; there is nothing else to say of a refusal.
     fn set(&mut self, j: usize, v: u16) -> bool
         ensures { Sets (cells self.old) (top self.old) j v result (cells self.new) (top self.new) };
 }
