@@ -7,7 +7,7 @@ use Rattle.std.proofs.lemmas.Bool.{and_parts, eqb-true, ltb-false, ltb-true}
 use Rattle.memory.specs.Meaning.{Gets, Sets, replaced}
 use Rattle.memory.proofs.Facts.{accepts_inside, cell_at_inside, gets_past, sets_past}
 use Rattle.memory.proofs.Rows.{row_set}
-use Rattle.spread.specs.Place.{Missing, Permutes, SetsIf, Stands, divides, place, placed, spread_row, spread_row_length}
+use Rattle.spread.specs.Place.{Missing, Permutes, Stands, divides, place, placed, spread_row, spread_row_length}
 
 -- below a product, neither factor is 0
 right_above : (d w j : ℕ) → j < w * d → 0 < w
@@ -55,25 +55,19 @@ module _ (d w : ℕ) (above : 0 < d) where
   unfolding across
   across_permutes = record { inside = across_inside; one_to_one = across_same; onto = across_met }
 
-same_permutes : (n : ℕ) → Permutes n (λ j. j)
-same_permutes n = record { inside = λ j h. h; one_to_one = λ j k hj hk e. e; onto = λ k h. (k, h, refl) }
-
-either_permutes : (b : Bool) (n : ℕ) (p : ℕ → ℕ) → (b ≡ true → Permutes n p) → Permutes n (λ j. cond b (p j) j)
-either_permutes true n p h = h refl
-either_permutes false n p h = same_permutes n
-
-pub place_permutes : (depth len : ℕ) → Permutes len (place depth len)
-place_permutes depth len =
-    either_permutes (divides depth len) len (λ j. j % depth * (len / depth) + j / depth)
-    (λ e.
+pub place_permutes : (depth len : ℕ) → divides depth len ≡ true → Permutes len (place depth len)
+place_permutes depth len e =
     let parts = and_parts (ltb 0 depth) (eqb (len % depth) 0) e in
     let whole : len / depth * depth ≡ len = omega (arith, div-add-mod' len depth, eqb-true (len % depth) 0 parts.1) in
-    subst (λ (n : ℕ). Permutes n (λ j. j % depth * (len / depth) + j / depth)) whole (across_permutes depth (len / depth) (ltb-true 0 depth parts.0)))
+    subst (λ (n : ℕ). Permutes n (λ j. j % depth * (len / depth) + j / depth)) whole (across_permutes depth (len / depth) (ltb-true 0 depth parts.0))
 
-module _ (depth : ℕ) (below : List ℕ) (j : ℕ) where
+module _ (depth : ℕ) (below : List ℕ) (divided : divides depth (length below) ≡ true) (j : ℕ) where
+  permutes : Permutes (length below) (place depth (length below))
+  permutes = place_permutes depth (length below) divided
+
   module _ (h : j < length below) where
     inside : place depth (length below) j < length below
-    inside = (place_permutes depth (length below)).inside j h
+    inside = permutes.inside j h
 
     inside' : j < length (spread_row depth below)
     inside' = omega (arith, spread_row_length depth below)
@@ -89,7 +83,7 @@ module _ (depth : ℕ) (below : List ℕ) (j : ℕ) where
         ap (λ n. map (λ k. get_or (set below at v) (place depth n k) 0) (range_with_len 0 n)) (length-set below at v)
         ∙ row_set (λ k. get_or below (place depth (length below) k) 0) (λ k. get_or (set below at v) (place depth (length below) k) 0) (length below) j v h
         (get_or-set_same below at v 0 inside)
-        (λ k hk apart. get_or-set_other below at (place depth (length below) k) v 0 (λ e. apart ((place_permutes depth (length below)).one_to_one k j hk h e)))
+        (λ k hk apart. get_or-set_other below at (place depth (length below) k) v 0 (λ e. apart (permutes.one_to_one k j hk h e)))
 
     spread_replaced : (b : Bool) (v : ℕ) → spread_row depth (replaced b below (place depth (length below) j) v) ≡ replaced b (spread_row depth below) j v
     spread_replaced true v = spread_set v
@@ -113,10 +107,10 @@ module _ (depth : ℕ) (below : List ℕ) (j : ℕ) where
       kept = s.kept;
     }
 
-    stands : Stands depth below j (place depth (length below) j)
+    pub stands : Stands depth below j (place depth (length below) j)
     stands = record { gets = gets_placed; sets = sets_placed }
 
-  missing : length below ≤ j → Missing depth below j
+  pub missing : length below ≤ j → Missing depth below j
   missing past =
       let past' : length (spread_row depth below) ≤ j = omega (arith, spread_row_length depth below) in
       record { gets = λ top. gets_past (spread_row depth below) j top past'; sets = λ top v. sets_past (spread_row depth below) j top past' v }
@@ -127,12 +121,3 @@ module _ (depth : ℕ) (below : List ℕ) (j : ℕ) where
 
   pub placed_stands : MatchOption (placed depth (length below) j) (Missing depth below j) (Stands depth below j)
   placed_stands = stands_by (ltb j (length below)) (ltb-true j (length below)) (ltb-false j (length below))
-
-  module _ (top v : ℕ) (r : Bool) (below' : List ℕ) (top' : ℕ) where
-    pub stands_sets : (at : Option ℕ) → MatchOption at (Missing depth below j) (Stands depth below j) → SetsIf at below top v r below' top' → Sets (spread_row depth below) top j v r (spread_row depth below') top'
-    stands_sets (Some at) here s = here.sets top v r below' top' s
-    stands_sets None gone s = record {
-      accepted = s.0 ∙ (gone.sets top v).accepted;
-      after = ap (spread_row depth) s.1 ∙ ap (λ b. replaced b (spread_row depth below) j v) (sym s.0);
-      kept = s.2;
-    }

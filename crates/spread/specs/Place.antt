@@ -1,5 +1,5 @@
 -- Where the spreading layer finds each of its cells in the memory below it.
-use Rattle.std.specs.Prelude.{◌≡◌, ℕ, ◌+◌, ◌*◌, ◌/◌, ◌%◌, ◌<◌, Bool, false, cond, ◌&&◌, List, map, length, Some, None, Option, MatchOption, ◌==◌, nat_lt, slice_index}
+use Rattle.std.specs.Prelude.{◌≡◌, ℕ, ◌+◌, ◌*◌, ◌/◌, ◌%◌, ◌<◌, Bool, false, cond, ◌&&◌, List, map, length, Some, None, Option, ◌==◌, nat_lt, slice_index}
 use Rattle.std.proofs.Common.{arith}
 use Rattle.std.specs.List.{range_with_len}
 use Rattle.std.proofs.lemmas.List.FromFn.{length-map-range_with_len}
@@ -15,10 +15,9 @@ depth_ground = record { number = 8; layer = Memory; first = 0; second = 0 }
 abbrev pub divides : ℕ → ℕ → Bool
 divides depth len = nat_lt 0 depth && len % depth == 0
 
--- the cell below that is cell j of the layer. Under a depth that does not divide it is cell j itself: the maker
--- refuses such a depth, and with this every value of the layer is a memory.
+-- the cell below that is cell j of the layer
 abbrev pub place : ℕ → ℕ → ℕ → ℕ
-place depth len j = cond (divides depth len) (j % depth * (len / depth) + j / depth) j
+place depth len j = j % depth * (len / depth) + j / depth
 
 -- the same of any number: nothing where the layer has no cell j
 abbrev pub placed : ℕ → ℕ → ℕ → Option ℕ
@@ -54,8 +53,3 @@ spread_row_length depth below = length-map-range_with_len (λ j. slice_index bel
 
 pub spread_row_bounded : (depth : ℕ) (below : List ℕ) (top : ℕ) → Bounded below top → Bounded (spread_row depth below) top
 spread_row_bounded depth below top b = record { few = omega (arith, spread_row_length depth below, b.few); top_low = b.top_low; top_high = b.top_high }
-
--- what setting the cell at a place to v does, if there is a place: without one it is refused and changes nothing
-abbrev pub SetsIf : Option ℕ → List ℕ → ℕ → ℕ → Bool → List ℕ → ℕ → Type 0
-SetsIf at cells top v answer cells' top' =
-    MatchOption at ((answer ≡ false) × (cells' ≡ cells) × (top' ≡ top)) (λ j. Sets cells top j v answer cells' top')

@@ -1,12 +1,12 @@
 //! The spreading layer: a memory whose neighbouring cells lie far apart in the memory below it.
 #![tactic(auto)]
 
-ghost use Rattle.std.specs.Prelude.{◌≡◌, ℕ, ◌<◌, ◌≤◌, length, if◌then◌else◌, Ok, Err, MatchOption};
+ghost use Rattle.std.specs.Prelude.{◌≡◌, ℕ, ◌<◌, ◌≤◌, true, false, length, MatchOption, MatchResult};
 ghost use Rattle.memory.specs.Meaning.{max_cells};
-ghost use Rattle.spread.specs.Place.{Missing, Permutes, SetsIf, Stands, depth_ground, divides, place, placed, spread_row, spread_row_bounded};
+ghost use Rattle.spread.specs.Place.{Missing, Permutes, Stands, depth_ground, divides, place, placed, spread_row, spread_row_bounded};
 
 use fault::{Fault, Ground, Layer};
-use memory::Memory;
+use memory::{Memory, Returned};
 
 /// The number of the ground on which a depth is refused.
 const DEPTH_GROUND: u8 = 8;
@@ -28,28 +28,22 @@ impl Fault for DepthFault {
     }
 }
 
-/// A memory that could not be spread, handed back as it was, and why.
-#[derive(Drop)]
-pub struct NotSpread<M: Memory> {
-    pub below: M,
-    pub fault: DepthFault,
-}
-
 /// A memory over another memory of L cells: cell j is the cell (j mod D) × (L div D) + (j div D) below, D being the depth.
 #[derive(Drop)]
 pub struct Spread<M: Memory> {
     below: M,
     depth: usize,
+    ghost divided: { divides depth (length (M.cells below)) ≡ true },
 }
 
 impl<M: Memory> Spread<M> {
     /// Spreads a memory. The depth must divide its number of cells.
-    pub fn new(below: M, depth: usize) -> Result<Spread<M>, NotSpread<M>>
-        ensures { result ≡ (if divides depth (length (M.cells below)) then Ok (record { below = below; depth = depth }) else Err (record { below = below; fault = record {} })) }
+    pub fn new(below: M, depth: usize) -> Result<Spread<M>, Returned<M, DepthFault>>
+        ensures { MatchResult result (λ layer. (divides depth (length (M.cells below)) ≡ true) × (layer.below ≡ below) × (layer.depth ≡ depth)) (λ no. (divides depth (length (M.cells below)) ≡ false) × (no ≡ record { memory = below; fault = record {} })) }
     {
         if depth == 0 || below.len() % depth != 0 {
-            return Err(NotSpread {
-                below,
+            return Err(Returned {
+                memory: below,
                 fault: DepthFault,
             });
         }
@@ -65,36 +59,17 @@ impl<M: Memory> Spread<M> {
     }
 
     /// Where cell j lies below, or nothing when there is no cell j.
+    #[tactic(auto, using(crate::proofs::Places::place_permutes, crate::proofs::Places::missing, crate::proofs::Places::stands))]
     pub fn place_below(&self, j: usize) -> Option<usize>
         ensures value { result ≡ placed self.now.depth (length (M.cells self.now.below)) j }
         ensures stands { MatchOption result (Missing self.now.depth (M.cells self.now.below) j) (Stands self.now.depth (M.cells self.now.below) j) }
         ensures numbering { Permutes (length (M.cells self.now.below)) (place self.now.depth (length (M.cells self.now.below))) }
     {
-        place_of(self.depth, self.below.len(), j)
-    }
-}
-
-// The place of cell j among len cells.
-fn place_of(depth: usize, len: usize, j: usize) -> Option<usize>
-    requires { len ≤ max_cells }
-    ensures { result ≡ placed depth len j }
-{
-    if j >= len {
-        return None;
-    }
-    if depth == 0 || len % depth != 0 {
-        return Some(j);
-    }
-    Some(j % depth * (len / depth) + j / depth)
-}
-
-// Sets the cell at this place, if there is one.
-fn set_if<M: Memory>(memory: &mut M, at: Option<usize>, v: u16) -> bool
-    ensures { SetsIf at (M.cells memory.old) (M.top memory.old) v result (M.cells memory.new) (M.top memory.new) }
-{
-    match at {
-        Some(j) => memory.set(j, v),
-        None => false,
+        let len = self.below.len();
+        if j >= len {
+            return None;
+        }
+        Some(j % self.depth * (len / self.depth) + j / self.depth)
     }
 }
 
@@ -105,6 +80,7 @@ impl<M: Memory> Memory for Spread<M> {
 
     ghost bounded = { λ s. spread_row_bounded s.depth (M.Memory.cells s.below) (M.Memory.top s.below) (M.Memory.bounded s.below) };
 
+    #[tactic(auto, using(crate::specs::Place::spread_row_length))]
     fn len(&self) -> usize {
         self.below.len()
     }
@@ -119,7 +95,9 @@ impl<M: Memory> Memory for Spread<M> {
     }
 
     fn set(&mut self, j: usize, v: u16) -> bool {
-        let at = self.place_below(j);
-        set_if(&mut self.below, at, v)
+        let Some(at) = self.place_below(j) else {
+            return false;
+        };
+        self.below.set(at, v)
     }
 }
