@@ -1,5 +1,4 @@
 pub mod Answering
-pub mod Fresh
 pub mod Judging
 pub mod Loading
 pub mod Numbers

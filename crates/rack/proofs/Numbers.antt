@@ -27,7 +27,7 @@ module _ (f : Arithmetic) where
 
 mapped_none : (o : Option ℕ) → option_map suc o ≡ None → o ≡ None
 mapped_none None e = refl
-mapped_none (Some i) e = let z : ◌≡◌ {A = ℕ} 0 1 = cc in absurd (omega arith)
+mapped_none (Some i) e = cc
 
 -- The first number is not beyond, nor is any after it.
 first_within : (q x : ℕ) (xs : List ℕ) → first_beyond q (x ∷ xs) ≡ None → (x < q) × (first_beyond q xs ≡ None)
@@ -35,7 +35,7 @@ first_within q x xs e = go (ltb x q) refl e
   where
     go : (b : Bool) → ltb x q ≡ b → cond b (option_map suc (first_beyond q xs)) (Some 0) ≡ None → (x < q) × (first_beyond q xs ≡ None)
     go true below e = (ltb-true x q below, mapped_none (first_beyond q xs) e)
-    go false beyond e = let z : ◌≡◌ {A = ℕ} 0 1 = cc in absurd (omega arith)
+    go false beyond e = cc
 
 -- Where no number is beyond, each is below q.
 pub none_beyond : (q : ℕ) (numbers : List ℕ) → first_beyond q numbers ≡ None → (i : ℕ) → i < length numbers → get_or numbers i 0 < q

@@ -1,7 +1,7 @@
 -- Cells of which some are overwritten: how many there are, what the written part holds, and that every part beside it is as it was.
 use Rattle.std.proofs.Common.{◌≡◌, ℕ, ◌+◌, ◌<◌, ◌≤◌, ◌⊎◌, List, ◌++◌, length, get_or, take, drop, set, sym, refl, ap, ◌∙◌, inl, inr, arith}
 use lib.Seq.{paste}
-use Rattle.std.proofs.lemmas.List.Edits.{paste_more, paste_none}
+use Rattle.std.proofs.lemmas.List.Edits.{paste_more}
 use Rattle.std.proofs.lemmas.List.{append_assoc, drop_at, drop-take, length-append, length-drop, length-take-le, take-append-le, take_at, take-take}
 use Rattle.std.proofs.lemmas.Slice.{drop-append-drop}
 use Rattle.rack.specs.States.{overwritten}
@@ -43,10 +43,6 @@ as_paste : (cells : List ℕ) (at : ℕ) (codes : List ℕ) (i : ℕ) → i ≤ 
 as_paste cells at codes i l =
     ap (λ (n : ℕ). take at cells ++ (take i codes ++ drop (at + n) cells)) (length-take-le i codes l)
     ∙ sym (append_assoc (take at cells) (take i codes) (drop (at + i) cells))
-
--- Nothing is written: the cells are as they were.
-pub overwritten_none : (cells : List ℕ) (at : ℕ) (codes : List ℕ) → overwritten cells at (take 0 codes) ≡ cells
-overwritten_none cells at codes = as_paste cells at codes 0 (omega arith) ∙ sym (paste_none cells at codes)
 
 -- The first i codes are written: the next one makes it i + 1.
 pub overwritten_more : (cells : List ℕ) (at : ℕ) (codes : List ℕ) (i : ℕ) → at + length codes ≤ length cells → i < length codes

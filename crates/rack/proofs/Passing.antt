@@ -1,6 +1,6 @@
 -- What a call that meets none of the grounds 10 to 17 has shown of what it is given; and the grounds in the parts in which the
 -- rack looks for them.
-use Rattle.std.proofs.Common.{◌≡◌, ℕ, ◌<◌, Bool, true, false, not, eqb, leb, List, length, Some, None, Option, sym, refl, ap, ◌∙◌, arith}
+use Rattle.std.proofs.Common.{◌≡◌, ℕ, ◌<◌, Bool, true, false, not, eqb, leb, List, length, Some, None, Option, sym, refl, ap, ◌∙◌}
 use Rattle.std.proofs.lemmas.Bool.{eqb-true, leb-false, not-false}
 use Rattle.plan.specs.Schemes.{Scheme, degree, message_length, positions}
 use Rattle.rack.specs.Checks.{holder_ground, message_ground, open_ground, opening_ground, residue_ground, use_ground}
@@ -10,13 +10,10 @@ use Rattle.rack.specs.declared.faults.RackFault.{RackFault}
 use Rattle.rack.specs.declared.faults.RackFault.TheVariants.{Slot}
 use Rattle.rack.specs.declared.faults.SlotFault.TheVariants.{NoPosition, NoSlot, WrongLength}
 
-some_not_none : {fault : RackFault} → Some fault ≡ None → ⊥
-some_not_none e = let z : ◌≡◌ {A = ℕ} 0 1 = cc in omega arith
-
 -- Of two grounds neither is met.
 pub first_none : (x y : Option RackFault) → first_of x y ≡ None → (x ≡ None) × (y ≡ None)
 first_none None y e = (refl, e)
-first_none (Some fault) y e = absurd (some_not_none e)
+first_none (Some fault) y e = cc
 
 -- Grounds in a row may be taken in parts, and nothing after them changes nothing.
 first_assoc : (x y z : Option RackFault) → first_of x (first_of y z) ≡ first_of (first_of x y) z
@@ -87,7 +84,7 @@ module _ (s : Scheme) (S : ℕ) (l : Ledger) where
 
 -- A ground is not met: its test fails.
 pub met_none : (test : Bool) (fault : RackFault) → met test fault ≡ None → test ≡ false
-met_none true fault e = absurd (some_not_none e)
+met_none true fault e = cc
 met_none false fault e = refl
 
 -- Where 10 and 11 are not met there is such a slot, whatever else is asked.

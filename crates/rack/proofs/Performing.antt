@@ -32,7 +32,7 @@ state_same r q = go (is_some (judge r.scheme r.slots (shown r) q))
 
 module _ (r : State) (rack : IsRack r) where
   -- A rack stays one with another record of a slot, if that has all marks, and with other cells, if they are as many.
-  record_stays : (slot : ℕ) → slot < r.slots → (entry : SlotRecord) → length entry.marks ≡ most_positions
+  record_stays : (slot : ℕ) → slot < r.slots → (entry : SlotRecord) → length entry.present ≡ most_positions
       → (cells : List ℕ) → length cells ≡ length r.cells
       → IsRack (with_cells (with_record r slot entry) cells)
   record_stays slot inside entry all cells long =
@@ -43,39 +43,39 @@ module _ (r : State) (rack : IsRack r) where
         marks = marks;
       }
     where
-      marks : (t : ℕ) → t < r.slots → length (record_at (with_record r slot entry) t).marks ≡ most_positions
+      marks : (t : ℕ) → t < r.slots → length (record_at (with_record r slot entry) t).present ≡ most_positions
       marks t below =
           elim (cases_eq t slot) [
             | inl same ↦
-                ap (λ (u : ℕ). length (record_at (with_record r slot entry) u).marks) same
-                ∙ ap (λ (x : SlotRecord). length x.marks) (record_here r rack slot inside entry) ∙ all
-            | inr other ↦ ap (λ (x : SlotRecord). length x.marks) (record_beside r rack slot inside entry t other) ∙ rack.marks t below
+                ap (λ (u : ℕ). length (record_at (with_record r slot entry) u).present) same
+                ∙ ap (λ (x : SlotRecord). length x.present) (record_here r rack slot inside entry) ∙ all
+            | inr other ↦ ap (λ (x : SlotRecord). length x.present) (record_beside r rack slot inside entry t other) ∙ rack.marks t below
           ]
 
   -- A record with one position marked has all marks.
-  marked_length : (slot : ℕ) → slot < r.slots → (position mark : ℕ)
-      → length (marked (record_at r slot) position mark).marks ≡ most_positions
-  marked_length slot inside position mark = length-set (record_at r slot).marks position mark ∙ rack.marks slot inside
+  marked_length : (slot : ℕ) → slot < r.slots → (position : ℕ) (mark : Bool)
+      → length (marked (record_at r slot) position mark).present ≡ most_positions
+  marked_length slot inside position mark = length-set (record_at r slot).present position mark ∙ rack.marks slot inside
 
   -- What a call makes of a rack is a rack: of a call that meets no ground, and of every call.
   changed_stays : (q : Request) → judge r.scheme r.slots (shown r) q ≡ None → IsRack (rack_changed r q)
   changed_stays (opens channel slot) e =
       record_stays slot (open_judged r.scheme r.slots (shown r) channel slot e)
-      (record { owner = Some (channel_numbered channel); marks = replicate most_positions 0 }) refl r.cells refl
+      (record { owner = Some (channel_numbered channel); present = replicate most_positions false }) refl r.cells refl
   changed_stays (puts channel slot position residue) e =
       let judged = put_judged r.scheme r.slots (shown r) channel slot position residue e in
       let room = put_room r rack slot position residue judged.0 judged.2 in
-      record_stays slot judged.0 (marked (record_at r slot) position 1) (marked_length slot judged.0 position 1)
+      record_stays slot judged.0 (marked (record_at r slot) position true) (marked_length slot judged.0 position true)
       (overwritten r.cells (cell_of r.scheme slot position) residue)
       (overwritten_length r.cells (cell_of r.scheme slot position) residue room)
   changed_stays (strikes channel slot position) e =
       let judged = strike_judged r.scheme r.slots (shown r) channel slot position e in
-      record_stays slot judged.0 (marked (record_at r slot) position 0) (marked_length slot judged.0 position 0) r.cells refl
+      record_stays slot judged.0 (marked (record_at r slot) position false) (marked_length slot judged.0 position false) r.cells refl
   changed_stays (reads channel slot buffer) e = rack
   changed_stays (measures channel slot message) e = rack
   changed_stays (closes channel slot) e =
       let inside = close_judged r.scheme r.slots (shown r) channel slot e in
-      record_stays slot inside (record { owner = None; marks = (record_at r slot).marks }) (rack.marks slot inside) r.cells refl
+      record_stays slot inside (record { owner = None; present = (record_at r slot).present }) (rack.marks slot inside) r.cells refl
 
   pub stays_rack : (q : Request) → IsRack (state_after r q)
   stays_rack q = go (judge r.scheme r.slots (shown r) q) refl

@@ -66,12 +66,12 @@ module _ (s : Scheme) (slot position : ℕ) (residue : List ℕ) (long : length 
     put_beside t i apart = overwritten_beside cells (cell_of s slot position) residue room (cell_of s t i) (degree s i) apart
 
 -- What a mark and the cells show of a position.
-abbrev seen : ℕ → List ℕ → Option (List ℕ)
-seen mark held = cond (eqb mark 0) None (Some held)
+abbrev seen : Bool → List ℕ → Option (List ℕ)
+seen mark held = cond mark (Some held) None
 
 -- What a record and the cells show of a slot.
 abbrev account_by : Scheme → List ℕ → ℕ → SlotRecord → Account
-account_by s cells slot entry i = seen (get_or entry.marks i 0) (cells_at s cells slot i)
+account_by s cells slot entry i = seen (get_or entry.present i false) (cells_at s cells slot i)
 
 abbrev shown_by : Scheme → List ℕ → ℕ → SlotRecord → SlotState
 shown_by s cells slot entry = slot_state entry.owner (account_by s cells slot entry)
@@ -88,7 +88,7 @@ shown_cells : (s : Scheme) (cells cells' : List ℕ) (slot : ℕ) (entry : SlotR
     → ((i : ℕ) → cells_at s cells' slot i ≡ cells_at s cells slot i)
     → shown_by s cells' slot entry ≡ shown_by s cells slot entry
 shown_cells s cells cells' slot entry same =
-    ap (slot_state entry.owner) (fun_ext (λ i. ap (seen (get_or entry.marks i 0)) (same i)))
+    ap (slot_state entry.owner) (fun_ext (λ i. ap (seen (get_or entry.present i false)) (same i)))
 
 -- A position becomes another in what is shown, as it does in the ledger, whoever holds the slot.
 state_position : (owner : Option Channel) (account : Account) (position : ℕ) (residue : Option (List ℕ))
@@ -97,8 +97,8 @@ state_position None account position residue = refl
 state_position (Some channel) account position residue = refl
 
 -- So it becomes where one position is marked, and the cells of the others hold the same.
-module _ (s : Scheme) (cells cells' : List ℕ) (slot : ℕ) (entry : SlotRecord) (position mark : ℕ) (residue : Option (List ℕ))
-    (inside : position < length entry.marks)
+module _ (s : Scheme) (cells cells' : List ℕ) (slot : ℕ) (entry : SlotRecord) (position : ℕ) (mark : Bool) (residue : Option (List ℕ))
+    (inside : position < length entry.present)
     (here : seen mark (cells_at s cells' slot position) ≡ residue)
     (beside : (i : ℕ) → i ≢ position → cells_at s cells' slot i ≡ cells_at s cells slot i) where
   account_marked : (i : ℕ)
@@ -110,12 +110,12 @@ module _ (s : Scheme) (cells cells' : List ℕ) (slot : ℕ) (entry : SlotRecord
       go true e =
           let same = eqb-true i position e in
           ap (account_by s cells' slot (marked entry position mark)) same
-          ∙ ap (λ (m : ℕ). seen m (cells_at s cells' slot position)) (get_or-set_same entry.marks position mark 0 inside)
+          ∙ ap (λ (m : Bool). seen m (cells_at s cells' slot position)) (get_or-set_same entry.present position mark false inside)
           ∙ here
       go false e =
           let other = eqb-false i position e in
-          ap (λ (m : ℕ). seen m (cells_at s cells' slot i)) (get_or-set_other entry.marks position i mark 0 other)
-          ∙ ap (seen (get_or entry.marks i 0)) (beside i other)
+          ap (λ (m : Bool). seen m (cells_at s cells' slot i)) (get_or-set_other entry.present position i mark false other)
+          ∙ ap (seen (get_or entry.present i false)) (beside i other)
 
   shown_marked : shown_by s cells' slot (marked entry position mark) ≡ with_position (shown_by s cells slot entry) position residue
   shown_marked =
@@ -131,12 +131,12 @@ written l l' slot entry here beside t = go (eqb t slot) refl
     go true e = ap l' (eqb-true t slot e) ∙ here
     go false e = beside t (eqb-false t slot e)
 
--- No position is present where every mark is 0.
-no_marks : (i : ℕ) → ◌≡◌ {A = ℕ} (get_or (replicate most_positions 0) i 0) 0
+-- No position is present where every mark is false.
+no_marks : (i : ℕ) → get_or (replicate most_positions false) i false ≡ false
 no_marks i =
     elim (cases_lt i most_positions) [
-      | inl l ↦ get_or-replicate most_positions i 0 0 l
-      | inr l ↦ get_or_past (replicate most_positions 0) i 0 l
+      | inl l ↦ get_or-replicate most_positions i false false l
+      | inr l ↦ get_or_past (replicate most_positions false) i false l
     ]
 
 module _ (r : State) (rack : IsRack r) where
@@ -144,7 +144,7 @@ module _ (r : State) (rack : IsRack r) where
   recorded : (slot : ℕ) → slot < r.slots → slot < length r.records
   recorded slot inside = omega (arith, rack.fits.few, rack.table)
 
-  markable : (slot position : ℕ) → slot < r.slots → position < positions r.scheme → position < length (record_at r slot).marks
+  markable : (slot position : ℕ) → slot < r.slots → position < positions r.scheme → position < length (record_at r slot).present
   markable slot position inside there = omega (arith, rack.lawful.few, rack.marks slot inside)
 
   -- A residue of the right length has its place among the cells.
@@ -155,10 +155,10 @@ module _ (r : State) (rack : IsRack r) where
   module _ (slot : ℕ) (inside : slot < r.slots) (entry : SlotRecord) where
     -- The record that is written stands at its slot, and those of the others are as they were.
     pub record_here : record_at (with_record r slot entry) slot ≡ entry
-    record_here = get_or-set_same r.records slot entry (record { owner = None; marks = [] }) (recorded slot inside)
+    record_here = get_or-set_same r.records slot entry (record { owner = None; present = [] }) (recorded slot inside)
 
     pub record_beside : (t : ℕ) → t ≢ slot → record_at (with_record r slot entry) t ≡ record_at r t
-    record_beside t other = get_or-set_other r.records slot t entry (record { owner = None; marks = [] }) other
+    record_beside t other = get_or-set_other r.records slot t entry (record { owner = None; present = [] }) other
 
     -- With another record of a slot, and cells that hold the same for every other slot: that slot shows what they say, the others what they did.
     module _ (cells : List ℕ) (same : (t : ℕ) → t ≢ slot → (i : ℕ) → cells_at r.scheme cells t i ≡ cells_at r.scheme r.cells t i) where
@@ -174,7 +174,7 @@ module _ (r : State) (rack : IsRack r) where
           (shown_inside (with_cells (with_record r slot entry) cells) slot entry inside record_here) shown_beside
 
   -- The same, of a record with one position marked.
-  position_shown : (slot position mark : ℕ) (residue : Option (List ℕ)) (cells : List ℕ)
+  position_shown : (slot position : ℕ) (mark : Bool) (residue : Option (List ℕ)) (cells : List ℕ)
       → slot < r.slots → position < positions r.scheme
       → seen mark (cells_at r.scheme cells slot position) ≡ residue
       → ((i : ℕ) → i ≢ position → cells_at r.scheme cells slot i ≡ cells_at r.scheme r.cells slot i)
@@ -193,27 +193,27 @@ module _ (r : State) (rack : IsRack r) where
   shown_changed : (q : Request) → judge r.scheme r.slots (shown r) q ≡ None → (t : ℕ) → shown (rack_changed r q) t ≡ ledger_changed (shown r) q t
   shown_changed (opens channel slot) e t =
       record_shown slot (open_judged r.scheme r.slots (shown r) channel slot e)
-      (record { owner = Some (channel_numbered channel); marks = replicate most_positions 0 }) r.cells (λ t other i. refl) t
+      (record { owner = Some (channel_numbered channel); present = replicate most_positions false }) r.cells (λ t other i. refl) t
       ∙ ap (λ (x : Account). write (shown r) slot (open_for (channel_numbered channel) x) t)
-      (fun_ext (λ i. ap (λ (m : ℕ). seen m (cells_at r.scheme r.cells slot i)) (no_marks i)))
+      (fun_ext (λ i. ap (λ (m : Bool). seen m (cells_at r.scheme r.cells slot i)) (no_marks i)))
   shown_changed (puts channel slot position residue) e t =
       let judged = put_judged r.scheme r.slots (shown r) channel slot position residue e in
       let long = judged.2 in
       let room = put_room slot position residue judged.0 long in
       let beside = put_beside r.scheme slot position residue long r.cells room in
-      position_shown slot position 1 (Some residue) (overwritten r.cells (cell_of r.scheme slot position) residue) judged.0 judged.1
+      position_shown slot position true (Some residue) (overwritten r.cells (cell_of r.scheme slot position) residue) judged.0 judged.1
       (ap Some (put_here r.scheme slot position residue long r.cells room))
       (λ i other. beside slot i (other_position r.scheme slot position residue long i judged.1 other))
       (λ t other i. beside t i (other_slot r.scheme slot position residue long t i other))
       t
   shown_changed (strikes channel slot position) e t =
       let judged = strike_judged r.scheme r.slots (shown r) channel slot position e in
-      position_shown slot position 0 None r.cells judged.0 judged.1 refl (λ i other. refl) (λ t other i. refl) t
+      position_shown slot position false None r.cells judged.0 judged.1 refl (λ i other. refl) (λ t other i. refl) t
   shown_changed (reads channel slot buffer) e t = refl
   shown_changed (measures channel slot message) e t = refl
   shown_changed (closes channel slot) e t =
       record_shown slot (close_judged r.scheme r.slots (shown r) channel slot e)
-      (record { owner = None; marks = (record_at r slot).marks }) r.cells (λ t other i. refl) t
+      (record { owner = None; present = (record_at r slot).present }) r.cells (λ t other i. refl) t
 
   -- So it is after every call; one that meets a ground leaves both as they were.
   pub shown_after : (q : Request) (t : ℕ) → shown (state_after r q) t ≡ step r.scheme r.slots (shown r) q t

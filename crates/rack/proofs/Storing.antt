@@ -1,20 +1,17 @@
 -- Codes that are stored in cells, one after the other.
-use Rattle.std.proofs.Common.{◌≡◌, ℕ, ◌+◌, ◌<◌, ◌≤◌, true, List, length, get_or, take, set, sym, refl, ap, ◌∙◌, arith}
-use Rattle.std.proofs.lemmas.List.{length-take-le, take_all}
+use Rattle.std.proofs.Common.{◌≡◌, ℕ, ◌+◌, ◌<◌, ◌≤◌, true, List, length, get_or, take, set, ap, ◌∙◌, arith}
+use Rattle.std.proofs.lemmas.List.{length-take-le}
 use Rattle.memory.specs.Meaning.{Sets, replaced}
-use Rattle.memory.proofs.Facts.{sets_accepted}
+use Rattle.memory.proofs.Facts.{sets_accepted, sets_length}
 use Rattle.rack.specs.States.{overwritten}
-use Rattle.rack.specs.Stored.{Stored}
-use Rattle.rack.proofs.Overwriting.{overwritten_length, overwritten_more, overwritten_none}
+use Rattle.rack.proofs.Overwriting.{overwritten_length, overwritten_more}
 
--- The first i codes are stored; the top is as it was.
+-- The first i codes are stored; the top and the number of cells are as they were.
 pub record StoredTo (cells : List ℕ) (top at : ℕ) (codes : List ℕ) (i : ℕ) (cells' : List ℕ) (top' : ℕ) : Type 0 where
   pub kept : top' ≡ top
+  pub long : length cells' ≡ length cells
   pub written :
       at + length codes ≤ length cells → ((k : ℕ) → k < length codes → get_or codes k 0 ≤ top) → cells' ≡ overwritten cells at (take i codes)
-
-pub stored_none : (cells : List ℕ) (top at : ℕ) (codes : List ℕ) → StoredTo cells top at codes 0 cells top
-stored_none cells top at codes = record { kept = refl; written = λ room small. sym (overwritten_none cells at codes) }
 
 -- One more code.
 pub stored_more : (cells : List ℕ) (top at : ℕ) (codes : List ℕ) (i : ℕ) (now : List ℕ) (top' : ℕ) (after : List ℕ) (top'' : ℕ) (v : ℕ)
@@ -23,6 +20,7 @@ pub stored_more : (cells : List ℕ) (top at : ℕ) (codes : List ℕ) (i : ℕ)
 stored_more cells top at codes i now top' after top'' v so_far below v_is {answer} sets =
     record {
       kept = sets.kept ∙ so_far.kept;
+      long = sets_length now top' (at + i) v answer after top'' sets ∙ so_far.long;
       written = λ room small.
           let before = so_far.written room small in
           let part : length (take i codes) ≡ i = length-take-le i codes (omega arith) in
@@ -34,12 +32,4 @@ stored_more cells top at codes i now top' after top'' v so_far below v_is {answe
           ∙ ap (λ (x : List ℕ). set x (at + i) v) before
           ∙ ap (set (overwritten cells at (take i codes)) (at + i)) v_is
           ∙ overwritten_more cells at codes i room below;
-    }
-
-pub stored_all : (cells : List ℕ) (top at : ℕ) (codes : List ℕ) (i : ℕ) (now : List ℕ) (top' : ℕ)
-    → StoredTo cells top at codes i now top' → length codes ≤ i → Stored cells top at codes now top'
-stored_all cells top at codes i now top' so_far past =
-    record {
-      kept = so_far.kept;
-      written = λ room small. so_far.written room small ∙ ap (overwritten cells at) (take_all i codes past);
     }

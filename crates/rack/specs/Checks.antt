@@ -1,22 +1,17 @@
 -- The checks of a call, in the parts in which the rack makes them. Of a ledger, the grounds 10 to 14 need only who holds the slot.
-use Rattle.std.specs.Prelude.{ℕ, cond, not, List, [], Some, None, Ok, Err, Option, Result, ◌==◌, slice_index_or}
+use Rattle.std.specs.Prelude.{ℕ, not, List, [], Some, None, Ok, Err, Option, Result, ◌==◌, slice_index_or}
 use Rattle.plan.specs.Schemes.{Scheme, degree, message_length}
 use Rattle.rack.specs.Channels.{channel_number, channel_numbered}
 use Rattle.rack.specs.Ledger.{first_of, met, no_channel, no_code, no_position, no_slot, wrong_length}
 use Rattle.rack.specs.declared.channel.Channel.{Channel}
-use Rattle.rack.specs.declared.channel.Channel.TheVariants as channel
 use Rattle.rack.specs.declared.faults.RackFault.{RackFault}
 use Rattle.rack.specs.declared.faults.RackFault.TheVariants.{Slot}
 use Rattle.rack.specs.declared.faults.SlotFault.TheVariants.{Closed, OpenAlready, OtherChannel}
 use Rattle.rack.specs.declared.records.SlotRecord.{SlotRecord}
 
--- The channel of any number, if there is one.
-abbrev pub channel_of : ℕ → Option Channel
-channel_of number = cond (number == 0) (Some channel.A) (cond (number == 1) (Some channel.B) None)
-
 -- Who holds each slot.
 abbrev pub owners : List SlotRecord → ℕ → Option Channel
-owners records slot = (slice_index_or records slot (record { owner = None; marks = [] })).owner
+owners records slot = (slice_index_or records slot (record { owner = None; present = [] })).owner
 
 -- 12 and 14, by the holder of the slot.
 abbrev pub holder_ground : ℕ → ℕ → Option Channel → Option RackFault
@@ -27,6 +22,10 @@ holder_ground channel slot (Some owner) = met (not (channel_number owner == chan
 abbrev pub opening_ground : ℕ → Option Channel → Option RackFault
 opening_ground slot None = None
 opening_ground slot (Some owner) = Some (Slot slot OpenAlready)
+
+-- 10 and 11, which every call is checked for first.
+abbrev pub named_ground : ℕ → ℕ → ℕ → Option RackFault
+named_ground S channel slot = first_of (no_channel channel) (no_slot S slot)
 
 -- 10, 11, 12 and 14.
 abbrev pub use_ground : ℕ → (ℕ → Option Channel) → ℕ → ℕ → Option RackFault
@@ -46,12 +45,14 @@ residue_ground s slot position residue =
 abbrev pub message_ground : Scheme → ℕ → List ℕ → Option RackFault
 message_ground s slot message = first_of (wrong_length slot (message_length s) message) (no_code s slot message)
 
--- A check by the ground that it finds, if any.
-abbrev pub settled : Option RackFault → Result (Unit {0}) RackFault
-settled None = Ok tt
-settled (Some fault) = Err fault
+-- A check by the ground that it finds, if any; one that finds none gives x.
+abbrev pub checked : {X : Type 0} → X → Option RackFault → Result X RackFault
+checked x None = Ok x
+checked x (Some fault) = Err fault
 
--- The check of an open gives the channel.
+-- The check of a use gives nothing more, and that of an open the channel.
+abbrev pub settled : Option RackFault → Result (Unit {0}) RackFault
+settled = checked tt
+
 abbrev pub granted : ℕ → Option RackFault → Result Channel RackFault
-granted number None = Ok (channel_numbered number)
-granted number (Some fault) = Err fault
+granted number = checked (channel_numbered number)

@@ -1,5 +1,5 @@
 -- What a rack holds, the ledger that its records and cells show, and what each call makes of it.
-use Rattle.std.specs.Prelude.{◌≡◌, ℕ, ◌+◌, ◌*◌, ◌<◌, ◌≤◌, cond, List, [], ◌++◌, length, take, drop, replicate, is_some, Some, None, Option, ◌==◌, nat_lt, slice_index, slice_index_or, slice_set}
+use Rattle.std.specs.Prelude.{◌≡◌, ℕ, ◌+◌, ◌*◌, ◌<◌, ◌≤◌, Bool, true, false, cond, List, [], ◌++◌, length, take, drop, replicate, is_some, Some, None, Option, nat_lt, slice_index_or, slice_set}
 use Rattle.plan.specs.Accounts.{Account}
 use Rattle.plan.specs.Limits.{most_positions}
 use Rattle.plan.specs.Schemes.{IsScheme, Scheme, degree, start, word_length}
@@ -9,10 +9,11 @@ use Rattle.rack.specs.Ledger.{SlotState, Ledger, Request, closed, closes, open_f
 use Rattle.rack.specs.Limits.{most_slots}
 use Rattle.rack.specs.declared.channel.Channel.{Channel}
 use Rattle.rack.specs.declared.records.SlotRecord.{SlotRecord}
+use Rattle.rack.specs.declared.records.Slots.{Slots}
 
 -- The record of a closed slot, as a rack has it at first.
 abbrev pub closed_record : SlotRecord
-closed_record = record { owner = None; marks = replicate most_positions 0 }
+closed_record = record { owner = None; present = replicate most_positions false }
 
 -- What a rack holds: the scheme of its plan, S, the slot records, and the cells and the top of its memory.
 pub record State : Type 0 where
@@ -22,8 +23,12 @@ pub record State : Type 0 where
   pub cells : List ℕ
   pub top : ℕ
 
+-- The same by a rack's parts.
+abbrev pub held_by : Scheme → Slots → List ℕ → ℕ → State
+held_by s slots cells top = record { scheme = s; slots = slots.count; records = slots.records; cells = cells; top = top }
+
 abbrev pub record_at : State → ℕ → SlotRecord
-record_at r slot = slice_index_or r.records slot (record { owner = None; marks = [] })
+record_at r slot = slice_index_or r.records slot (record { owner = None; present = [] })
 
 -- Where position i of a slot begins among the cells: slot s has the cells from s × N on.
 abbrev pub cell_of : Scheme → ℕ → ℕ → ℕ
@@ -33,9 +38,9 @@ cell_of s slot i = slot * word_length s + start s i
 abbrev pub cells_at : Scheme → List ℕ → ℕ → ℕ → List ℕ
 cells_at s cells slot i = take (degree s i) (drop (cell_of s slot i) cells)
 
--- The account of a slot as its marks and cells stand: a position with mark 0 is missing, any other has what its cells hold.
+-- The account of a slot as its marks and cells stand: a position that is present has what its cells hold.
 abbrev pub account_of : State → ℕ → Account
-account_of r slot i = cond (slice_index (record_at r slot).marks i == 0) None (Some (cells_at r.scheme r.cells slot i))
+account_of r slot i = cond (slice_index_or (record_at r slot).present i false) (Some (cells_at r.scheme r.cells slot i)) None
 
 abbrev pub slot_state : Option Channel → Account → SlotState
 slot_state None account = closed
@@ -62,19 +67,19 @@ with_cells r cells = record { scheme = r.scheme; slots = r.slots; records = r.re
 abbrev pub overwritten : List ℕ → ℕ → List ℕ → List ℕ
 overwritten cells at codes = take at cells ++ (codes ++ drop (at + length codes) cells)
 
-abbrev pub marked : SlotRecord → ℕ → ℕ → SlotRecord
-marked entry position mark = record { owner = entry.owner; marks = slice_set entry.marks position mark }
+abbrev pub marked : SlotRecord → ℕ → Bool → SlotRecord
+marked entry position mark = record { owner = entry.owner; present = slice_set entry.present position mark }
 
 -- What a call that meets none of the grounds 10 to 17 makes of the rack. The marks of a closed slot stay, and count for nothing.
 abbrev pub rack_changed : State → Request → State
 rack_changed r (opens channel slot) =
-    with_record r slot (record { owner = Some (channel_numbered channel); marks = replicate most_positions 0 })
+    with_record r slot (record { owner = Some (channel_numbered channel); present = replicate most_positions false })
 rack_changed r (puts channel slot position residue) =
-    with_cells (with_record r slot (marked (record_at r slot) position 1)) (overwritten r.cells (cell_of r.scheme slot position) residue)
-rack_changed r (strikes channel slot position) = with_record r slot (marked (record_at r slot) position 0)
+    with_cells (with_record r slot (marked (record_at r slot) position true)) (overwritten r.cells (cell_of r.scheme slot position) residue)
+rack_changed r (strikes channel slot position) = with_record r slot (marked (record_at r slot) position false)
 rack_changed r (reads channel slot buffer) = r
 rack_changed r (measures channel slot message) = r
-rack_changed r (closes channel slot) = with_record r slot (record { owner = None; marks = (record_at r slot).marks })
+rack_changed r (closes channel slot) = with_record r slot (record { owner = None; present = (record_at r slot).present })
 
 -- What a call makes of the rack: one that meets a ground alters nothing.
 abbrev pub state_after : State → Request → State
@@ -92,7 +97,7 @@ pub record IsRack (r : State) : Type 0 where
   pub lawful : IsScheme r.scheme
   pub fits : Fits r.scheme r.slots r.cells r.top
   pub table : length r.records ≡ most_slots
-  pub marks : (slot : ℕ) → slot < r.slots → length (record_at r slot).marks ≡ most_positions
+  pub marks : (slot : ℕ) → slot < r.slots → length (record_at r slot).present ≡ most_positions
 
 -- A call on a rack: the answer by what the records and cells show, what the rack is afterwards, and that a ledger which agreed
 -- with the rack before the call agrees with it again once the call is written there, and gives the same answer.

@@ -2,8 +2,9 @@
 use Rattle.std.specs.Prelude.{◌≡◌, ℕ, ◌+◌, ◌<◌, ◌≤◌, List, length, slice_index}
 use Rattle.rack.specs.States.{overwritten}
 
--- The top never changes. Where there is a cell for each code, and each code is within the top, the cells hold the codes.
+-- Neither the top nor the number of cells changes. Where there is a cell for each code, and each code is within the top, the cells hold the codes.
 pub record Stored (cells : List ℕ) (top at : ℕ) (codes cells' : List ℕ) (top' : ℕ) : Type 0 where
   pub kept : top' ≡ top
+  pub long : length cells' ≡ length cells
   pub written :
       at + length codes ≤ length cells → ((i : ℕ) → i < length codes → slice_index codes i ≤ top) → cells' ≡ overwritten cells at codes

@@ -5,7 +5,7 @@ ghost use Rattle.plan.specs.Limits.{most_total};
 ghost use Rattle.rack.specs.Stored.{Stored};
 
 use memory::Memory;
-use reader::{MESSAGE_TABLE, WORD_TABLE};
+use plan::MOST_TOTAL;
 
 /// Sets the cells from `at` on to the codes. A memory that a rack fits takes every one of them, so no answer is looked at.
 pub(crate) fn store<M: Memory>(memory: &mut M, at: usize, codes: &[u16])
@@ -21,31 +21,19 @@ pub(crate) fn store<M: Memory>(memory: &mut M, at: usize, codes: &[u16])
 fn cell<M: Memory>(memory: &M, j: usize) -> u16
     ensures { result ≡ slice_index (M.cells memory.now) j }
 {
-    match memory.get(j) {
-        Some(v) => v,
-        None => 0,
-    }
+    memory.get(j).unwrap_or(0)
 }
 
-/// The `count` cells from `at` on, in a table that has zeros after them.
-pub(crate) fn load<M: Memory>(memory: &M, at: usize, count: usize) -> [u16; WORD_TABLE]
+/// The `count` cells from `at` on, in a table that has zeros after them. It is filled by place: once an adapter of `iter_mut`
+/// is done nothing is known of the table, and `array::from_fn` wants a closure with a `requires` and a branch for the zeros.
+pub(crate) fn load<M: Memory>(memory: &M, at: usize, count: usize) -> [u16; MOST_TOTAL]
     requires place { at + count ≤ max_cells }
     requires few { count ≤ most_total }
     ensures { at + count ≤ length (M.cells memory.now) → take count result ≡ take count (drop at (M.cells memory.now)) }
 {
-    let mut table = [0; WORD_TABLE];
+    let mut table = [0; MOST_TOTAL];
     for i in 0..count {
         table[i] = cell(memory, at + i);
     }
-    table
-}
-
-/// A message in a table that has zeros after it.
-pub(crate) fn message_table(message: &[u16]) -> [u16; MESSAGE_TABLE]
-    requires { length message.now ≤ most_total }
-    ensures { take (length message.now) result ≡ message.now }
-{
-    let mut table = [0; MESSAGE_TABLE];
-    table[0..message.len()].copy_from_slice(message);
     table
 }

@@ -1,66 +1,46 @@
 //! Whether a channel may open or use a slot, and whether what a call gives fits the plan.
-ghost use Rattle.std.specs.Prelude.{◌≡◌, ◌≤◌};
+ghost use Rattle.std.specs.Prelude.{◌≡◌};
 ghost use Rattle.plan.specs.Held.{scheme};
-ghost use Rattle.rack.specs.Checks.{channel_of, granted, message_ground, open_ground, owners, residue_ground, settled, use_ground};
+ghost use Rattle.rack.specs.Channels.{channel_numbered};
+ghost use Rattle.rack.specs.Checks.{checked, granted, message_ground, named_ground, open_ground, owners, residue_ground, settled, use_ground};
 ghost use Rattle.rack.specs.Ledger.{code_fault, first_beyond, no_position, wrong_length};
-ghost use Rattle.rack.specs.Limits.{most_slots};
 
 use crate::channel::Channel;
 use crate::faults::{RackFault, SlotFault};
-use crate::limits::CHANNELS;
 use crate::records::Slots;
 use field::Field;
 use plan::{Plan, first_no_code};
 
-// The channel of a number, if there is one.
-fn channel_of(number: usize) -> Option<Channel>
-    ensures { result ≡ channel_of number }
-{
-    match number {
-        0 => Some(Channel::A),
-        1 => Some(Channel::B),
-        _ => None,
-    }
-}
-
 impl Slots {
-    /// The channel of the number, if it may open the slot.
-    pub(crate) fn may_open(&self, channel: usize, slot: usize) -> Result<Channel, RackFault>
-        requires { self.now.count ≤ most_slots }
-        ensures { result ≡ granted channel (open_ground self.now.count (owners self.now.records) channel slot) }
+    // The channel of the number, and who holds the slot, if there are both.
+    fn named(&self, channel: usize, slot: usize) -> Result<(Channel, Option<Channel>), RackFault>
+        ensures { result ≡ checked (channel_numbered channel, owners self.now.records slot) (named_ground self.now.count channel slot) }
     {
-        let Some(opener) = channel_of(channel) else {
-            return Err(RackFault::NoChannel);
-        };
+        let channel = Channel::try_from(channel)?;
         if slot >= self.count {
             return Err(RackFault::Slot(slot, SlotFault::NoSlot));
         }
-        match self.records[slot].owner {
-            Some(_) => Err(RackFault::Slot(slot, SlotFault::OpenAlready)),
-            None => Ok(opener),
+        Ok((channel, self.records[slot].owner))
+    }
+
+    /// The channel of the number, if it may open the slot.
+    pub(crate) fn may_open(&self, channel: usize, slot: usize) -> Result<Channel, RackFault>
+        ensures { result ≡ granted channel (open_ground self.now.count (owners self.now.records) channel slot) }
+    {
+        match self.named(channel, slot)? {
+            (opener, None) => Ok(opener),
+            (_, Some(_)) => Err(RackFault::Slot(slot, SlotFault::OpenAlready)),
         }
     }
 
     /// Whether the channel may use the slot: it is open, and the channel's.
     pub(crate) fn may_use(&self, channel: usize, slot: usize) -> Result<(), RackFault>
-        requires { self.now.count ≤ most_slots }
         ensures { result ≡ settled (use_ground self.now.count (owners self.now.records) channel slot) }
     {
-        if channel >= CHANNELS {
-            return Err(RackFault::NoChannel);
-        }
-        if slot >= self.count {
-            return Err(RackFault::Slot(slot, SlotFault::NoSlot));
-        }
-        match self.records[slot].owner {
-            None => Err(RackFault::Slot(slot, SlotFault::Closed)),
-            Some(owner) => {
-                if owner.number() == channel {
-                    Ok(())
-                } else {
-                    Err(RackFault::Slot(slot, SlotFault::OtherChannel))
-                }
-            }
+        match self.named(channel, slot)? {
+            (_, None) => Err(RackFault::Slot(slot, SlotFault::Closed)),
+            (user, Some(owner)) if owner == user => Ok(()),
+            (_, Some(_)) => Err(RackFault::Slot(slot, SlotFault::OtherChannel)),
         }
     }
 }
@@ -71,7 +51,7 @@ pub(crate) fn check_position<F: Field>(
     slot: usize,
     position: usize,
 ) -> Result<(), RackFault>
-    ensures { result ≡ settled (no_position (scheme F.Field.arithmetic plan.now.record) slot position) }
+    ensures { result ≡ settled (no_position (scheme plan.now) slot position) }
 {
     if position >= plan.positions() {
         return Err(RackFault::Slot(slot, SlotFault::NoPosition(position)));
@@ -106,7 +86,7 @@ pub(crate) fn check_residue<F: Field>(
     position: usize,
     residue: &[u16],
 ) -> Result<(), RackFault>
-    ensures { result ≡ settled (residue_ground (scheme F.Field.arithmetic plan.now.record) slot position residue.now) }
+    ensures { result ≡ settled (residue_ground (scheme plan.now) slot position residue.now) }
 {
     check_position(plan, slot, position)?;
     check_length(slot, plan.degree(position), residue)?;
@@ -119,7 +99,7 @@ pub(crate) fn check_message<F: Field>(
     slot: usize,
     message: &[u16],
 ) -> Result<(), RackFault>
-    ensures { result ≡ settled (message_ground (scheme F.Field.arithmetic plan.now.record) slot message.now) }
+    ensures { result ≡ settled (message_ground (scheme plan.now) slot message.now) }
 {
     check_length(slot, plan.message_length(), message)?;
     check_codes::<F>(slot, message)

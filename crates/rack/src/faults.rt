@@ -90,12 +90,9 @@ fn slot_ground(slot: usize, fault: SlotFault) -> Ground
         SlotFault::WrongLength(right) => (16, right),
         SlotFault::NoCode(index) => (17, index),
         SlotFault::Unread(cause) => {
-            let ground = cause.ground();
             return Ground {
-                number: ground.number,
-                layer: ground.layer,
                 first: slot,
-                second: ground.second,
+                ..cause.ground()
             };
         }
     };

@@ -15,8 +15,6 @@ mod table;
 
 pub use call::{Answer, Call, Found};
 pub use channel::Channel;
-pub use dispatch::perform;
 pub use faults::{FitFault, RackFault, SlotFault};
 pub use limits::MOST_SLOTS;
-pub use making::NotMade;
 pub use table::Rack;

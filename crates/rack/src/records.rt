@@ -1,63 +1,60 @@
 //! What the rack notes of each slot: whose it is, and which positions are present.
-ghost use Rattle.std.specs.Prelude.{◌≡◌, ◌<◌, replicate, Some, None, slice_set};
+ghost use Rattle.std.specs.Prelude.{◌≡◌, ◌<◌, ◌≤◌, replicate, false, Some, None};
 ghost use Rattle.plan.specs.Limits.{most_positions};
+ghost use Rattle.rack.specs.Limits.{most_slots};
 
 use crate::channel::Channel;
-use crate::limits::{MOST_SLOTS, PRESENT};
-use reader::{MARKS_TABLE, MISSING};
+use crate::limits::MOST_SLOTS;
+use plan::MOST_POSITIONS;
 
-/// The record of one slot: the channel that has it open, if any, and a mark for each position.
+/// The record of one slot: the channel that has it open, if any, and whether each position is present.
 #[derive(Clone, Copy)]
 pub struct SlotRecord {
     pub(crate) owner: Option<Channel>,
-    pub(crate) marks: [u8; MARKS_TABLE],
+    pub(crate) present: [bool; MOST_POSITIONS],
 }
 
-/// The table of slot records, of which the first `count` are in use.
+/// The table of slot records, of which the first `count` are in use. A table of fixed size, for nothing is allocated; a call is
+/// lent one record of it.
 #[derive(Clone, Copy)]
 pub struct Slots {
     pub(crate) count: usize,
     pub(crate) records: [SlotRecord; MOST_SLOTS],
+    ghost few: { count ≤ most_slots },
 }
 
 impl SlotRecord {
+    ghost use Rattle.rack.specs.States.{closed_record, marked};
+
     /// A closed slot.
     pub(crate) fn closed() -> SlotRecord
-        ensures { result ≡ record { owner = None; marks = replicate most_positions 0 } }
+        ensures { result ≡ closed_record }
     {
         SlotRecord {
             owner: None,
-            marks: [MISSING; MARKS_TABLE],
+            present: [false; MOST_POSITIONS],
         }
     }
 
     /// The slot becomes the channel's, every position missing.
     pub(crate) fn open(&mut self, channel: Channel)
-        ensures { self.new ≡ record { owner = Some channel; marks = replicate most_positions 0 } }
+        ensures { self.new ≡ record { owner = Some channel; present = replicate most_positions false } }
     {
         self.owner = Some(channel);
-        self.marks = [MISSING; MARKS_TABLE];
+        self.present = [false; MOST_POSITIONS];
     }
 
-    /// The position is present.
-    pub(crate) fn mark(&mut self, position: usize)
+    /// The position is present, or it is missing.
+    pub(crate) fn mark(&mut self, position: usize, present: bool)
         requires { position < most_positions }
-        ensures { self.new ≡ record { owner = self.old.owner; marks = slice_set self.old.marks position 1 } }
+        ensures { self.new ≡ marked self.old position present }
     {
-        self.marks[position] = PRESENT;
-    }
-
-    /// The position is missing.
-    pub(crate) fn strike(&mut self, position: usize)
-        requires { position < most_positions }
-        ensures { self.new ≡ record { owner = self.old.owner; marks = slice_set self.old.marks position 0 } }
-    {
-        self.marks[position] = MISSING;
+        self.present[position] = present;
     }
 
     /// The slot is closed.
     pub(crate) fn close(&mut self)
-        ensures { self.new ≡ record { owner = None; marks = self.old.marks } }
+        ensures { self.new ≡ record { owner = None; present = self.old.present } }
     {
         self.owner = None;
     }

@@ -2,11 +2,12 @@ use Rattle.std.proofs.Common.{◌+◌, ◌*◌, ◌≤◌, length, ap, arith}
 use Rattle.rack.specs.Racks.{state}
 use Rattle.rack.proofs.Loading.{slot_loaded}
 use Rattle.rack.proofs.Showing.{slot_room}
-use Rattle.rack.proofs.table.Rack.residues.Goals as goal
+use Rattle.rack.proofs.table.Rack.word.Goals as goal
 
 pub returns : goal.returns
-returns g c = λ rack.
-    let r = state g.F.Field.arithmetic g.M.Memory.cells g.M.Memory.top c.args.self.now in
+returns g c =
+    let rack = c.args.self.now.whole in
+    let r = state c.args.self.now in
     let n = c.word_length-count.result in
     let slots = c.args.self.now.slots.count in
     let room : c.args.slot * n + n ≤ length (g.M.Memory.cells c.args.self.now.memory) =
