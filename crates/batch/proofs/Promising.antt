@@ -4,7 +4,7 @@ use Rattle.algebra.specs.Field.{Arithmetic, FieldLaws}
 use Rattle.plan.specs.Refusals.{Accepted}
 use Rattle.plan.specs.Schemes.{Scheme, handed_in}
 use Rattle.rack.specs.Making.{Made}
-use Rattle.rack.specs.States.{IsRack, State}
+use Rattle.rack.specs.States.{State}
 use Rattle.batch.specs.Lists.{RunsOn}
 use Rattle.batch.specs.Promise.{Kept, Load, Promise}
 use Rattle.batch.proofs.Readings.{kept, same_messages}
@@ -15,13 +15,13 @@ module _ (f : Arithmetic) (L : FieldLaws f) (k : ℕ) (codes : List ℕ) (accept
   pub record Loaded (load : Load) : Type 0 where
     pub start : State
     pub made : Made s load.slots load.cells load.top start
-    pub runs : IsRack start → RunsOn start load.before load.done load.rack
+    pub runs : RunsOn start load.before load.done load.rack
 
   made_of : (load : Load) → Loaded load → (start : State) × Made (handed_in f k codes) load.slots load.cells load.top start
       × RunsOn start load.before load.done load.rack
   made_of load loaded =
       let made = subst (λ (x : Scheme). Made x load.slots load.cells load.top loaded.start) is loaded.made in
-      (loaded.start, made, loaded.runs (made.is_rack accepted.lawful))
+      (loaded.start, made, loaded.runs)
 
   -- A list on a rack straight from its making keeps the promise, and so do two.
   pub one_kept : (load : Load) → Loaded load → Kept (handed_in f k codes) load

@@ -56,7 +56,7 @@ pub held_below : (S : ℕ) (l : Ledger) → Bounded S l → (slot : ℕ) (channe
 held_below S l b slot channel account e =
     elim (dec_lt slot S) [
       | yes h ↦ h
-      | no h ↦ let none = b slot (omega arith) in let z : ◌≡◌ {A = ℕ} 0 1 = cc in absurd (omega arith)
+      | no h ↦ let none = b slot (omega arith) in cc
     ]
 
 module _ (s : Scheme) (S : ℕ) where
@@ -140,7 +140,7 @@ module _ (s : Scheme) (load : Load) (ran : Ran s load.slots blank load.before lo
   gave_within codes gave =
       elim reading_ways [
         | inl accepted ↦ let same : accepted.buffer ≡ codes = cc in rw same at accepted.within
-        | inr refused ↦ let z : ◌≡◌ {A = ℕ} 0 1 = cc in absurd (omega arith)
+        | inr refused ↦ cc
       ]
 
   module _ (L : FieldLaws s.arithmetic) (h : IsScheme s) where
@@ -174,12 +174,12 @@ same_messages s L h one other ran ran' i j a b here there message = (
 shown_account : (test : Bool) (owner : Option Channel) (a account : Account) (channel : Channel)
     → cond test (slot_state owner a) closed ≡ open_for channel account → a ≡ account
 shown_account true (Some c) a account channel e = cc
-shown_account true None a account channel e = let z : ◌≡◌ {A = ℕ} 0 1 = cc in absurd (omega arith)
-shown_account false owner a account channel e = let z : ◌≡◌ {A = ℕ} 0 1 = cc in absurd (omega arith)
+shown_account true None a account channel e = cc
+shown_account false owner a account channel e = cc
 
 -- whose residue at a position present is what the cells hold.
-held_residue : (missing : Bool) (x y : List ℕ) → cond missing None (Some x) ≡ Some y → x ≡ y
-held_residue true x y e = let z : ◌≡◌ {A = ℕ} 0 1 = cc in absurd (omega arith)
+held_residue : (present : Bool) (x y : List ℕ) → cond present (Some x) None ≡ Some y → x ≡ y
+held_residue true x y e = cc
 held_residue false x y e = cc
 
 -- Where the rack agrees with the ledger, its cells hold the accounts.

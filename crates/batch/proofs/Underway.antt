@@ -1,5 +1,5 @@
 -- A list of calls on its way: the calls before place i are answered by the ledger, and the others are as they were handed in.
-use Rattle.std.proofs.Common.{◌≡◌, ℕ, ◌+◌, ◌<◌, ◌≤◌, ◌≢◌, List, length, take, set, Some, None, fold, sym, refl, ap, ◌∙◌, subst, arith, below_more}
+use Rattle.std.proofs.Common.{◌≡◌, ℕ, ◌+◌, ◌<◌, ◌≤◌, ◌≢◌, List, length, take, set, Some, None, fold, sym, ap, ◌∙◌, subst, arith, below_more}
 use mathlib.Core.Path.{fun_ext}
 use Rattle.std.proofs.lemmas.List.{get_or-set_other, get_or-set_same, length-set, map_more, take_all}
 use Rattle.std.proofs.lemmas.List.Sums.{fold_push}
@@ -19,7 +19,6 @@ pub record Going (start : State) (l : Ledger) (before : List Entry) (s : Scheme)
   pub left : r ≡ fold state_after start (requests (take i before))
   pub scheme_is : r.scheme ≡ s
   pub slots_is : r.slots ≡ S
-  pub rack : IsRack r
   pub long : length entries ≡ length before
   pub agrees : Agrees r (ledger_before s S l before i)
   pub told :
@@ -45,59 +44,44 @@ performed : (r : State) (s : Scheme) (S : ℕ) → r.scheme ≡ s → r.slots �
     → Performs r request outcome r' given → (l : Ledger) → Agrees r l → Told s S l request outcome given × Agrees r' (step s S l request)
 performed r s S e n request outcome r' given p l a = rw (← e, ← n) (p.agrees l a)
 
--- Before the first call.
-pub going_start : (l : Ledger) (before : List Entry) (r : State) → IsRack r → Agrees r l → Going r l before r.scheme r.slots 0 r before
-going_start l before r rack agrees =
-    record { left = refl; scheme_is = refl; slots_is = refl; rack = rack; long = refl; agrees = agrees; told = λ k h. absurd (omega arith); rest = λ k h. refl }
-
--- One more call.
+-- One more call, as it is served.
 pub going_on : {start : State} {l : Ledger} {before : List Entry} {s : Scheme} {S i : ℕ} {r : State} {entries : List Entry} → Going start l before s S i r entries
-    → i < length before → (entry : Entry) (outcome : Outcome) (r' : State)
-    → Performs r (request_at entries i) outcome r' (given_by entry.call) → entry.outcome ≡ Some outcome
-    → Going start l before s S (i + 1) r' (set entries i entry)
-going_on {start} {l} {before} {s} {S} {i} {r} {entries} going within entry outcome r' performs answered =
-    let asked : request_at entries i ≡ request_at before i = ap (λ (x : Entry). given_by x.call) (going.rest i (omega arith)) in
-    let done = performed r s S going.scheme_is going.slots_is (request_at entries i) outcome r' (given_by entry.call) performs
+    → i < length before → (entry entry' : Entry) (r' : State) → entry ≡ entry_at entries i → Served r entry r' entry'
+    → Going start l before s S (i + 1) r' (set entries i entry')
+going_on {start} {l} {before} {s} {S} {i} {r} {entries} going within entry entry' r' is served =
+    let asked : given_by entry.call ≡ request_at before i = ap (λ (x : Entry). given_by x.call) (is ∙ going.rest i (omega arith)) in
+    let done = performed r s S going.scheme_is going.slots_is (given_by entry.call) served.outcome r' (given_by entry'.call) served.performed
     (ledger_before s S l before i) going.agrees in
-    let kept = state_same r (request_at entries i) in
+    let kept = state_same r (given_by entry.call) in
     let place : i < length entries = omega (arith, going.long) in
-    let here : entry_at (set entries i entry) i ≡ entry = get_or-set_same entries i entry _ place in
-    let others : (k : ℕ) → k ≢ i → entry_at (set entries i entry) k ≡ entry_at entries k = λ k ne. get_or-set_other entries i k entry _ ne in
+    let here : entry_at (set entries i entry') i ≡ entry' = get_or-set_same entries i entry' _ place in
+    let others : (k : ℕ) → k ≢ i → entry_at (set entries i entry') k ≡ entry_at entries k = λ k ne. get_or-set_other entries i k entry' _ ne in
     record {
       left =
-          performs.left
+          served.performed.left
           ∙ ap (λ (x : Request). state_after r x) asked
           ∙ ap (λ (x : State). state_after x (request_at before i)) going.left
           ∙ sym (list_next state_after start before i within);
-      scheme_is = ap (λ (x : State). x.scheme) performs.left ∙ kept.0 ∙ going.scheme_is;
-      slots_is = ap (λ (x : State). x.slots) performs.left ∙ kept.1 ∙ going.slots_is;
-      rack = performs.stays;
-      long = length-set entries i entry ∙ going.long;
+      scheme_is = ap (λ (x : State). x.scheme) served.performed.left ∙ kept.0 ∙ going.scheme_is;
+      slots_is = ap (λ (x : State). x.slots) served.performed.left ∙ kept.1 ∙ going.slots_is;
+      long = length-set entries i entry' ∙ going.long;
       agrees = rw (ledger_next s S l before i within, ← asked) done.1;
       told =
           below_more _ _ (λ k h. rw (others k (omega arith)) (going.told k h))
-          (rw here (outcome, answered, rw (← asked) done.0));
+          (rw here (served.outcome, served.noted, rw (← asked) done.0));
       rest = λ k h. others k (omega arith) ∙ going.rest k (omega arith);
     }
 
 -- After the last call, by the ledger that the rack showed before the first: every ledger that agreed with the rack is that one.
 pub going_end : {start : State} {before : List Entry} {i : ℕ} {r : State} {entries : List Entry}
-    → Going start (shown start) before start.scheme start.slots i r entries → length before ≤ i → RunsOn start before entries r
-going_end {start} {before} {i} {r} {entries} going past =
+    → Going start (shown start) before start.scheme start.slots i r entries → length before ≤ i → IsRack r → RunsOn start before entries r
+going_end {start} {before} {i} {r} {entries} going past rack =
     let whole = take_all i before past in
     record {
       left = rw whole at going.left;
-      stays = going.rack;
+      stays = rack;
       agrees = λ l same.
           subst (λ (l : Ledger). Ran start.scheme start.slots l before entries × Agrees r (after start.scheme start.slots l (requests before)))
           (fun_ext same)
           (record { long = going.long; told = λ k h. going.told k (omega arith) }, rw whole at going.agrees);
     }
-
--- One more call, as it is served.
-pub going_served : {start : State} {l : Ledger} {before : List Entry} {s : Scheme} {S i : ℕ} {r : State} {entries : List Entry} → Going start l before s S i r entries
-    → i < length before → (entry entry' : Entry) (r' : State) → entry ≡ entry_at entries i → Served r entry r' entry'
-    → Going start l before s S (i + 1) r' (set entries i entry')
-going_served {start} {l} {before} {s} {S} {i} {r} {entries} going within entry entry' r' is served =
-    going_on going within entry' served.outcome r'
-    (subst (λ (x : Entry). Performs r (given_by x.call) served.outcome r' (given_by entry'.call)) is served.performed) served.noted

@@ -1,7 +1,6 @@
 -- The promise about arrangements: what every list of calls on a rack straight from its making keeps, and what any two readings
 -- under one plan have to do with one another.
 use Rattle.std.specs.Prelude.{◌≡◌, ℕ, ◌<◌, List, length, Some, None, Ok, Err, fold}
-use Rattle.algebra.specs.Field.{Arithmetic}
 use Rattle.field.specs.declared.Field as field
 use Rattle.memory.specs.declared.meaning.Memory as memory
 use Rattle.plan.specs.Accounts.{Account, Within, margin, wrong}
@@ -21,6 +20,7 @@ use Rattle.rack.specs.declared.faults.SlotFault.TheVariants.{Unread}
 use Rattle.rack.specs.declared.table.Rack.{Rack}
 use Rattle.batch.specs.Lists.{Ran, entry_at, ledger_before, request_at, requests}
 use Rattle.batch.specs.declared.entry.Entry.{Entry}
+use Rattle.batch.specs.declared.loading.Loading.{Loading}
 
 -- A list of calls on a rack straight from its making: S; the cells and the top of the memory as it was handed in; the list as it
 -- was handed in, and once it is run; and the rack as it is given back.
@@ -32,11 +32,18 @@ pub record Load : Type 0 where
   pub done : List Entry
   pub rack : State
 
--- The same by what is handed in, and by the rack that comes back.
+-- The same by what is handed in, by the list once it is run, and by the rack that comes back.
 abbrev pub load_of : {F M : Type 0} {fields : field.Ghosts F} {memories : memory.Ghosts M}
-    → Arithmetic → (M → List ℕ) → (M → ℕ) → ℕ → M → List Entry → List Entry → Rack F M fields memories → Load
-load_of f cells top slots memory before done rack =
-    record { slots = slots; cells = cells memory; top = top memory; before = before; done = done; rack = state f cells top rack }
+    → Loading M → List Entry → Rack F M fields memories → Load
+load_of {memories = memories} loading done rack =
+    record {
+      slots = loading.slots;
+      cells = memories.cells loading.memory;
+      top = memories.top loading.memory;
+      before = loading.entries.now;
+      done = done;
+      rack = state rack;
+    }
 
 module _ (s : Scheme) where
   -- The ledger beside the list, from the rack's making: just before call i, and after the list.

@@ -1,5 +1,8 @@
 //! Why lists of calls are not run: no plan, or a memory that does not fit.
+ghost use Rattle.std.specs.Prelude.{◌≡◌};
 ghost use Rattle.batch.specs.Refusals.{load_ground, pair_ground};
+ghost use Rattle.batch.specs.declared.faults.LoadFault.TheVariants as load;
+ghost use Rattle.batch.specs.declared.faults.PairFault.TheVariants as pair;
 
 use fault::{Fault, Ground};
 use plan::PlanFault;
@@ -25,6 +28,22 @@ impl Fault for LoadFault {
     }
 }
 
+impl From<PlanFault> for LoadFault {
+    ghost from_gives = { λ cause fault. fault ≡ load.Plan cause };
+
+    fn from(cause: PlanFault) -> LoadFault {
+        LoadFault::Plan(cause)
+    }
+}
+
+impl From<FitFault> for LoadFault {
+    ghost from_gives = { λ cause fault. fault ≡ load.Rack cause };
+
+    fn from(cause: FitFault) -> LoadFault {
+        LoadFault::Rack(cause)
+    }
+}
+
 /// Why no two racks were made.
 #[derive(Clone, Copy, PartialEq, Eq, Debug)]
 pub enum PairFault {
@@ -34,6 +53,14 @@ pub enum PairFault {
     First(FitFault),
     /// The first fits; the second number of slots is out of its range, or the second memory does not fit.
     Second(FitFault),
+}
+
+impl From<PlanFault> for PairFault {
+    ghost from_gives = { λ cause fault. fault ≡ pair.Plan cause };
+
+    fn from(cause: PlanFault) -> PairFault {
+        PairFault::Plan(cause)
+    }
 }
 
 impl Fault for PairFault {

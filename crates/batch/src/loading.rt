@@ -5,16 +5,9 @@ use crate::entry::Entry;
 use crate::faults::{LoadFault, PairFault};
 use crate::running::run;
 use field::Field;
-use memory::Memory;
+use memory::{Memory, Returned};
 use plan::Plan;
-use rack::{NotMade, Rack};
-
-/// A memory that no list was run on, handed back as it was, and why.
-#[derive(Drop)]
-pub struct NotLoaded<M: Memory> {
-    pub memory: M,
-    pub fault: LoadFault,
-}
+use rack::Rack;
 
 /// Two memories that no lists were run on, handed back as they were, and why.
 #[derive(Drop)]
@@ -24,36 +17,42 @@ pub struct NotPaired<M: Memory, W: Memory> {
     pub fault: PairFault,
 }
 
+/// What is to be run: a list of calls, on a rack of so many slots over a memory. In a clause `entry` is what was handed in, and
+/// `exit.0` the list as it is afterwards.
+pub struct Loading<'a, M: Memory> {
+    pub entries: &'a mut [Entry],
+    pub memory: M,
+    pub slots: usize,
+}
+
 /// Makes the plan and a rack, and runs the calls. A refusal alters neither the memory nor an entry.
 pub fn load<F: Field, M: Memory>(
     carriers: usize,
     moduli: &[u16],
-    memory: M,
-    slots: usize,
-    entries: &mut [Entry],
-) -> Result<Rack<F, M>, NotLoaded<M>>
-    ensures { LoadTold F.Field.arithmetic carriers moduli.now M.Memory.cells M.Memory.top memory slots entries.old entries.new result }
+    loading: Loading<'_, M>,
+) -> Result<Rack<F, M>, Returned<M, LoadFault>>
+    ensures { LoadTold carriers moduli.now loading.entry loading.exit.0.now result }
 {
+    let Loading {
+        entries,
+        memory,
+        slots,
+    } = loading;
     let plan = match Plan::<F>::new(carriers, moduli) {
         Ok(plan) => plan,
         Err(fault) => {
-            return Err(NotLoaded {
+            return Err(Returned {
                 memory,
-                fault: LoadFault::Plan(fault),
+                fault: LoadFault::from(fault),
             });
         }
     };
-    match Rack::new(plan, memory, slots) {
-        Ok(rack) => {
-            let mut rack = rack;
-            run(&mut rack, entries);
-            Ok(rack)
-        }
-        Err(NotMade { memory, fault }) => Err(NotLoaded {
-            memory,
-            fault: LoadFault::Rack(fault),
-        }),
-    }
+    let mut rack = Rack::new(plan, memory, slots).map_err(|Returned { memory, fault }| Returned {
+        memory,
+        fault: LoadFault::from(fault),
+    })?;
+    run(&mut rack, entries);
+    Ok(rack)
 }
 
 /// Makes the plan and two racks, over any two kinds of memory, and runs a list of calls on each. A refusal alters neither a memory
@@ -62,28 +61,35 @@ pub fn load<F: Field, M: Memory>(
 pub fn load_pair<F: Field, M: Memory, W: Memory>(
     carriers: usize,
     moduli: &[u16],
-    first: M,
-    first_slots: usize,
-    first_entries: &mut [Entry],
-    second: W,
-    second_slots: usize,
-    second_entries: &mut [Entry],
+    first: Loading<'_, M>,
+    second: Loading<'_, W>,
 ) -> Result<(Rack<F, M>, Rack<F, W>), NotPaired<M, W>>
-    ensures { PairTold F.Field.arithmetic carriers moduli.now M.Memory.cells M.Memory.top first first_slots first_entries.old first_entries.new W.Memory.cells W.Memory.top second second_slots second_entries.old second_entries.new result }
+    ensures { PairTold carriers moduli.now first.entry first.exit.0.now second.entry second.exit.0.now result }
 {
+    let Loading {
+        entries: first_entries,
+        memory: first,
+        slots: first_slots,
+    } = first;
+    let Loading {
+        entries: second_entries,
+        memory: second,
+        slots: second_slots,
+    } = second;
+    // A refusal hands both memories back, so each outcome is matched where both are at hand.
     let plan = match Plan::<F>::new(carriers, moduli) {
         Ok(plan) => plan,
         Err(fault) => {
             return Err(NotPaired {
                 first,
                 second,
-                fault: PairFault::Plan(fault),
+                fault: PairFault::from(fault),
             });
         }
     };
     let mut one = match Rack::new(plan, first, first_slots) {
         Ok(rack) => rack,
-        Err(NotMade { memory, fault }) => {
+        Err(Returned { memory, fault }) => {
             return Err(NotPaired {
                 first: memory,
                 second,
@@ -91,17 +97,17 @@ pub fn load_pair<F: Field, M: Memory, W: Memory>(
             });
         }
     };
-    match Rack::new(plan, second, second_slots) {
-        Ok(rack) => {
-            let mut other = rack;
-            run(&mut one, first_entries);
-            run(&mut other, second_entries);
-            Ok((one, other))
+    let mut other = match Rack::new(plan, second, second_slots) {
+        Ok(rack) => rack,
+        Err(Returned { memory, fault }) => {
+            return Err(NotPaired {
+                first: one.into_memory(),
+                second: memory,
+                fault: PairFault::Second(fault),
+            });
         }
-        Err(NotMade { memory, fault }) => Err(NotPaired {
-            first: one.into_memory(),
-            second: memory,
-            fault: PairFault::Second(fault),
-        }),
-    }
+    };
+    run(&mut one, first_entries);
+    run(&mut other, second_entries);
+    Ok((one, other))
 }

@@ -3,20 +3,20 @@ use Rattle.rack.specs.Racks.{state}
 use Rattle.batch.proofs.Promising.{both_kept}
 use Rattle.batch.proofs.loading.load_pair.Goals as goal
 
-pub returns-in-Ok-new-2 : goal.returns-in-Ok-new-2
-returns-in-Ok-new-2 g c =
+pub returns : goal.returns
+returns g c =
     let f = g.F.Field.arithmetic in
     let plan = c.in-Ok.ensures in (
       plan.0,
-      both_kept f g.met.F.Field.lawful c.args.carriers c.args.moduli.now plan.0 (scheme f c.in-Ok.plan.record) plan.1 _ _
+      both_kept f g.met.F.Field.lawful c.args.carriers c.args.moduli.now plan.0 (scheme c.in-Ok.plan) plan.1 _ _
           (record {
-            start = state f g.M.Memory.cells g.M.Memory.top c.in-Ok-new.rack;
+            start = state c.in-Ok-new.rack;
             made = c.in-Ok-new.ensures.0;
             runs = c.run.ensures;
           })
           (record {
-            start = state f g.W.Memory.cells g.W.Memory.top c.in-Ok-new-2.rack;
+            start = state c.in-Ok-new-2.rack;
             made = c.in-Ok-new-2.ensures.0;
-            runs = c.run-in-Ok-new-2.ensures;
+            runs = c.run-2.ensures;
           }),
     )
