@@ -44,13 +44,13 @@ zero_number : IsNumber (first_digit ∷ [])
 zero_number = record { some = lit≤ tt; few = lit≤ tt; digits = ((lit≤ tt, lit≤ tt), tt) }
 
 -- The digits of a token are a number.
-pub token_number : (s : List ℕ) (i j : ℕ) → i < j → DigitsTo s i j → IsNumber (between i j s)
+pub token_number : (s : List ℕ) (i j : ℕ) → i < j → DigitsTo most_digits s i j → IsNumber (between i j s)
 token_number s i j h d =
     let len = length-between s i j d.within in
     record { some = omega (arith, len); few = omega (arith, len, d.few); digits = d.digits }
 
 -- After these digits comes no other that could be taken.
-no_digit_left : (s : List ℕ) (i j : ℕ) → DigitsTo s i j → j < length s → 0 < most_digits - length (between i j s) → Digit (get_or s j 0) → ⊥
+no_digit_left : (s : List ℕ) (i j : ℕ) → DigitsTo most_digits s i j → j < length s → 0 < most_digits - length (between i j s) → Digit (get_or s j 0) → ⊥
 no_digit_left s i j d l left = let len = length-between s i j d.within in d.stops (omega (arith, len, left, d.more)) l
 
 -- No factor begins here.
@@ -68,7 +68,7 @@ pub no_factor : (n b : ℕ) → (Digit b → ⊥) → (b ≡ letter_z → ⊥) �
 no_factor n b p q r = grind (arith, nat_tests)
 
 -- A number.
-pub number_read : (f : Arithmetic) (n : ℕ) (s : List ℕ) (i j : ℕ) → i < j → DigitsTo s i j
+pub number_read : (f : Arithmetic) (n : ℕ) (s : List ℕ) (i j : ℕ) → i < j → DigitsTo most_digits s i j
     → Reading factor factor f n s i j (number_value f (numeral 0 (between i j s)))
 number_read f n s i j h d =
     let is_number = token_number s i j h d in
@@ -107,7 +107,7 @@ raised_front s i j h w e d =
     first_is s i j letter_z (omega arith) w e
     ∙ ap (λ x. letter_z ∷ x) (first_is s (i + 1) j caret (omega arith) w d ∙ ap (λ m. caret ∷ between m j s) two)
 
-pub power_read : (f : Arithmetic) (n : ℕ) (s : List ℕ) (i j : ℕ) → get_or s i 0 ≡ letter_z → get_or s (i + 1) 0 ≡ caret → i + 2 < j → DigitsTo s (i + 2) j
+pub power_read : (f : Arithmetic) (n : ℕ) (s : List ℕ) (i j : ℕ) → get_or s i 0 ≡ letter_z → get_or s (i + 1) 0 ≡ caret → i + 2 < j → DigitsTo most_digits s (i + 2) j
     → Reading factor factor f n s i j (power_value (numeral 0 (between (i + 2) j s)))
 power_read f n s i j e c h d =
     let is_number = token_number s (i + 2) j h d in
@@ -145,9 +145,9 @@ opens : (n : ℕ) (s : List ℕ) (i j : ℕ) → i < j → j ≤ length s → ge
     → watch (inside (suc n) fresh) (between i j s) ≡ watch (inside n fresh) (between (i + 1) j s)
 opens n s i j h w e = ap (watch (inside (suc n) fresh)) (first_is s i j left_bracket h w e)
 
-pub brackets_read : (f : Arithmetic) (n : ℕ) (s : List ℕ) (i j : ℕ) {codes : Value} → n < most_brackets → get_or s i 0 ≡ left_bracket
+brackets_within : (f : Arithmetic) (n : ℕ) (s : List ℕ) (i j : ℕ) {codes : Value} → n < most_brackets → get_or s i 0 ≡ left_bracket
     → Reading sum sum f n s (i + 1) j codes → j < length s → get_or s j 0 ≡ right_bracket → Reading factor factor f (suc n) s i (j + 1) codes
-brackets_read f n s i j few e r l c =
+brackets_within f n s i j few e r l c =
     let is : between i (j + 1) s ≡ left_bracket ∷ between (i + 1) j s ++ (right_bracket ∷ []) =
     first_is s i (j + 1) left_bracket (omega (arith, r.more)) (omega arith) e
     ∙ ap (λ x. left_bracket ∷ x) (between_more s (i + 1) j 0 (omega (arith, r.more)) l ∙ ap (λ b. between (i + 1) j s ++ b ∷ []) c) in
@@ -164,8 +164,8 @@ brackets_read f n s i j few e r l c =
           (λ h. sign_over (suc n) (get_or s (j + 1) 0));
     }
 
-pub brackets_stopped : (n : ℕ) (s : List ℕ) (i p : ℕ) → get_or s i 0 ≡ left_bracket → Stopped sum n s (i + 1) p → Stopped factor (suc n) s i p
-brackets_stopped n s i p e t = record {
+stopped_within : (n : ℕ) (s : List ℕ) (i p : ℕ) → get_or s i 0 ≡ left_bracket → Stopped sum n s (i + 1) p → Stopped factor (suc n) s i p
+stopped_within n s i p e t = record {
   more = omega (arith, t.more);
   within = t.within;
   rest = t.rest ++ right_bracket ∷ [];
@@ -179,9 +179,9 @@ brackets_stopped n s i p e t = record {
 }
 
 -- The sum inside is whole, and what follows does not close the bracket.
-pub not_closed : (f : Arithmetic) (n : ℕ) (s : List ℕ) (i j : ℕ) {codes : Value} → n < most_brackets → get_or s i 0 ≡ left_bracket
+not_closed_within : (f : Arithmetic) (n : ℕ) (s : List ℕ) (i j : ℕ) {codes : Value} → n < most_brackets → get_or s i 0 ≡ left_bracket
     → Reading sum sum f n s (i + 1) j codes → (j < length s → get_or s j 0 ≡ right_bracket → ⊥) → Stopped factor (suc n) s i j
-not_closed f n s i j few e r none =
+not_closed_within f n s i j few e r none =
     let p = passes r.phrase (omega arith) in
     let open_still : eqb n most_brackets ≡ false = grind (arith, nat_tests) in
     record {
@@ -204,3 +204,20 @@ not_closed f n s i j few e r none =
             | inr x ↦ x
           ];
     }
+
+-- The same, where `left` brackets may be opened before the one at i, and one less after it.
+one_back : {n left : ℕ} → n + 1 ≡ left → suc n ≡ left
+one_back one = omega arith
+
+pub brackets_read : (f : Arithmetic) {n left : ℕ} → n + 1 ≡ left → (s : List ℕ) (i j : ℕ) {codes : Value} → left ≤ most_brackets → get_or s i 0 ≡ left_bracket
+    → Reading sum sum f n s (i + 1) j codes → j < length s → get_or s j 0 ≡ right_bracket → Reading factor factor f left s i (j + 1) codes
+brackets_read f {n} one s i j {codes} few e r l c =
+    subst (λ m. Reading factor factor f m s i (j + 1) codes) (one_back one) (brackets_within f n s i j (omega arith) e r l c)
+
+pub brackets_stopped : {n left : ℕ} → n + 1 ≡ left → (s : List ℕ) (i p : ℕ) → get_or s i 0 ≡ left_bracket → Stopped sum n s (i + 1) p → Stopped factor left s i p
+brackets_stopped {n} one s i p e t = subst (λ m. Stopped factor m s i p) (one_back one) (stopped_within n s i p e t)
+
+pub not_closed : (f : Arithmetic) {n left : ℕ} → n + 1 ≡ left → (s : List ℕ) (i j : ℕ) {codes : Value} → left ≤ most_brackets → get_or s i 0 ≡ left_bracket
+    → Reading sum sum f n s (i + 1) j codes → (j < length s → get_or s j 0 ≡ right_bracket → ⊥) → Stopped factor left s i j
+not_closed f {n} one s i j few e r none =
+    subst (λ m. Stopped factor m s i j) (one_back one) (not_closed_within f n s i j (omega arith) e r none)

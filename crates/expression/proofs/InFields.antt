@@ -1,6 +1,7 @@
 -- The numbers of a value are codes of its field, so that the arithmetic may be asked to go on with it.
-use Rattle.std.proofs.Common.{◌≡◌, ℕ, zero, suc, ◌+◌, ◌-◌, ◌<◌, Bool, true, false, cond, ltb, List, [], ◌∷◌, ◌++◌, map, take, drop, replicate, Some, None, sym, refl, subst, arith}
+use Rattle.std.proofs.Common.{◌≡◌, ℕ, zero, suc, ◌+◌, ◌-◌, ◌<◌, Bool, true, false, ltb, List, [], ◌∷◌, ◌++◌, map, take, drop, replicate, Some, None, sym, refl, subst, arith}
 use Rattle.std.proofs.lemmas.Bool.Decides.{nat_tests}
+use Rattle.std.specs.Bool.{then_some}
 use Rattle.std.specs.List.{range_with_len}
 use Rattle.algebra.proofs.Bytes.{bytes}
 use Rattle.algebra.proofs.Modular.{bit_laws, clock_laws}
@@ -50,7 +51,7 @@ module _ (f : Arithmetic) (L : FieldLaws f) where
   multiply_codes p r zero = L.product_below (p 0) (r 0)
   multiply_codes p r (suc i) = L.sum_below (f.product (p 0) (r (suc i))) (multiply f (λ j. p (suc j)) r i)
 
-  if_so : (b : Bool) (xs : List ℕ) → (b ≡ true → Codes f xs) → InField f (cond b (Some xs) None)
+  if_so : (b : Bool) (xs : List ℕ) → (b ≡ true → Codes f xs) → InField f (then_some b xs)
   if_so true xs h = h refl
   if_so false xs h = tt
 

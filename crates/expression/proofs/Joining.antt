@@ -21,11 +21,12 @@ resumes k n c s i j m phrase few leads h l w e =
     ∙ (watch_++ (inside n fresh) (between i j s) (c ∷ between (j + 1) m s)
     ∙ (ap (λ t. watch (step t c) (between (j + 1) m s)) p.is ∙ ap (λ t. watch t (between (j + 1) m s)) (leads n p.spot p.is_whole)))
 
--- How parts of one kind are joined into a whole: by which sign, what the whole writes, and what it is worth.
+-- How parts of one kind are joined into a whole: by which sign, that one part is a whole, what the whole writes, and what it is worth.
 pub record Join (whole part : Kind) : Type 0 where
   pub sign : ℕ
   pub leads : Leads sign
   pub made : Expression → Expression → Expression
+  pub first : {n : ℕ} {x : List ℕ} {a : Expression} → Phrase part n x a → Phrase whole n x a
   pub joins : (n : ℕ) (x y : List ℕ) (a b : Expression) → Phrase whole n x a → Phrase part n y b → Phrase whole n (x ++ sign ∷ y) (made a b)
   pub worth : Arithmetic → Value → Value → Value
   pub worth_is : (f : Arithmetic) (a b : Expression) → value f (made a b) ≡ worth f (value f a) (value f b)
@@ -36,6 +37,7 @@ by_times =
       sign = times_sign;
       leads = times_leads;
       made = product_of;
+      first = one_factor;
       joins = λ n x y a b p q. times p q;
       worth = product_value;
       worth_is = λ f a b. refl;
@@ -47,6 +49,7 @@ by_plus =
       sign = plus_sign;
       leads = plus_leads;
       made = sum_of;
+      first = one_term;
       joins = λ n x y a b p q. plus p q;
       worth = sum_value;
       worth_is = λ f a b. refl;
@@ -93,45 +96,24 @@ module _ {whole part : Kind} (join : Join whole part) (f : Arithmetic) (n : ℕ)
         ∙ t.ends h;
   }
 
--- A factor is a term, and a term a sum.
-module _ {f : Arithmetic} {n : ℕ} {s : List ℕ} {i j : ℕ} {codes : Value} where
-  pub as_term : Reading factor factor f n s i j codes → Reading term factor f n s i j codes
-  as_term r = record {
+-- The first part is a whole of its own, and where it stops, so does the whole.
+module _ {whole part : Kind} (join : Join whole part) {n : ℕ} {s : List ℕ} {i : ℕ} where
+  pub alone : {f : Arithmetic} {j : ℕ} {codes : Value} → Reading part part f n s i j codes → Reading whole part f n s i j codes
+  alone r = record {
     expression = r.expression;
     more = r.more;
     within = r.within;
-    phrase = one_factor r.phrase;
+    phrase = join.first r.phrase;
     value_is = r.value_is;
     stops = r.stops;
   }
 
-  pub as_sum : Reading term term f n s i j codes → Reading sum term f n s i j codes
-  as_sum r = record {
-    expression = r.expression;
-    more = r.more;
-    within = r.within;
-    phrase = one_term r.phrase;
-    value_is = r.value_is;
-    stops = r.stops;
-  }
-
-module _ {n : ℕ} {s : List ℕ} {i p : ℕ} where
-  pub no_term : Stopped factor n s i p → Stopped term n s i p
-  no_term t = record {
+  pub alone_stopped : {p : ℕ} → Stopped part n s i p → Stopped whole n s i p
+  alone_stopped t = record {
     more = t.more;
     within = t.within;
     rest = t.rest;
     expression = t.expression;
-    phrase = one_factor t.phrase;
-    ends = t.ends;
-  }
-
-  pub no_sum : Stopped term n s i p → Stopped sum n s i p
-  no_sum t = record {
-    more = t.more;
-    within = t.within;
-    rest = t.rest;
-    expression = t.expression;
-    phrase = one_term t.phrase;
+    phrase = join.first t.phrase;
     ends = t.ends;
   }

@@ -1,4 +1,6 @@
+mod Digits
 mod Filled
+pub mod Moved
 mod InFields
 mod Stretches
 mod Watching

@@ -1,9 +1,8 @@
 -- Stretches of a sheet, cut into a byte and what comes after it.
-use Rattle.std.proofs.Common.{◌≡◌, ℕ, suc, ◌+◌, ◌-◌, ◌<◌, ◌≤◌, List, [], ◌∷◌, ◌++◌, length, get_or, take, drop, refl, ap, ◌∙◌, arith, drop-drop, take-add}
-use Rattle.std.proofs.lemmas.List.Edits.{between_none, length-between}
+use Rattle.std.proofs.Common.{◌≡◌, ℕ, suc, ◌+◌, ◌-◌, ◌<◌, ◌≤◌, List, [], ◌∷◌, ◌++◌, length, get_or, take, drop, ap, ◌∙◌, arith, drop-drop, take-add}
+use Rattle.std.proofs.lemmas.List.Edits.{between_more, between_none}
 use Rattle.std.proofs.lemmas.List.{drop_more}
 use Rattle.std.specs.List.{between}
-use Rattle.expression.specs.Tokens.{PartAt}
 
 -- A stretch begins with the byte at its place.
 pub first_and_rest : (s : List ℕ) (i j : ℕ) → i < j → j ≤ length s → between i j s ≡ get_or s i 0 ∷ between (i + 1) j s
@@ -17,13 +16,7 @@ pub first_is : (s : List ℕ) (i j b : ℕ) → i < j → j ≤ length s → get
 first_is s i j b h w e = first_and_rest s i j h w ∙ ap (λ c. c ∷ between (i + 1) j s) e
 
 pub single : (s : List ℕ) (i : ℕ) → i < length s → between i (i + 1) s ≡ get_or s i 0 ∷ []
-single s i h = first_and_rest s i (i + 1) (omega arith) (omega arith) ∙ ap (λ x. get_or s i 0 ∷ x) (between_none s (i + 1))
-
-pub single_part : (s : List ℕ) (i : ℕ) → i < length s → PartAt s i (between i (i + 1) s) i
-single_part s i h =
-    let len = length-between s i (i + 1) (omega arith) in
-    let end : i + 1 ≡ i + length (between i (i + 1) s) = omega (arith, len) in
-    record { here = refl; some = omega (arith, len); within = omega (arith, len); is = ap (λ m. between i m s) end }
+single s i h = between_more s i i 0 (omega arith) h ∙ ap (λ x. x ++ get_or s i 0 ∷ []) (between_none s i)
 
 -- A stretch is cut at any place of it.
 pub cut : (s : List ℕ) (i j k : ℕ) → i ≤ j → j ≤ k → between i k s ≡ between i j s ++ between j k s

@@ -8,14 +8,13 @@ use Rattle.expression.specs.Values.{Expression, number, power, product_of, sum_o
 use Rattle.expression.specs.Watch.{is_digit}
 use Rattle.expression.proofs.Watching.{digit_yes}
 
--- The factor in hand: not begun; a number, with how many digits may still come; a z; a z with its caret; the same with an exponent;
--- or what stood in brackets.
+-- The factor in hand: not begun; digits, with what they write of a number, and how many may still come; a z; a z with its caret; or what
+-- stood in brackets.
 data Hand : Type 0 where
   empty : Hand
-  digits : ℕ → ℕ → Hand
+  digits : (ℕ → Expression) → ℕ → ℕ → Hand
   letter : Hand
   raised : Hand
-  exponent : ℕ → ℕ → Hand
   bracketed : Expression → Hand
 
 -- What stands before it, to be joined with it.
@@ -50,10 +49,9 @@ total l e = added l.terms (multiplied l.factors e)
 -- The expression in hand, once it is whole.
 abbrev in_hand : Hand → Expression
 in_hand empty = number 0
-in_hand (digits k m) = number m
+in_hand (digits written k m) = written m
 in_hand letter = power 1
 in_hand raised = power 0
-in_hand (exponent k m) = power m
 in_hand (bracketed e) = e
 
 abbrev closed : Expression → List Level → Builder
@@ -75,14 +73,13 @@ abbrev step : Builder → ℕ → Builder
 step failed b = failed
 step (built e) b = failed
 step (building empty l ls) b =
-    cond (is_digit b) (building (digits (most_digits - 1) (10 * 0 + (b - first_digit))) l ls)
+    cond (is_digit b) (building (digits number (most_digits - 1) (10 * 0 + (b - first_digit))) l ls)
     (cond (eqb b letter_z) (building letter l ls) (cond (eqb b left_bracket) (building empty first (l ∷ ls)) failed))
-step (building (digits zero m) l ls) b = signed (number m) l ls b
-step (building (digits (suc k) m) l ls) b = cond (is_digit b) (building (digits k (10 * m + (b - first_digit))) l ls) (signed (number m) l ls b)
+step (building (digits written zero m) l ls) b = signed (written m) l ls b
+step (building (digits written (suc k) m) l ls) b =
+    cond (is_digit b) (building (digits written k (10 * m + (b - first_digit))) l ls) (signed (written m) l ls b)
 step (building letter l ls) b = cond (eqb b caret) (building raised l ls) (signed (power 1) l ls b)
-step (building raised l ls) b = cond (is_digit b) (building (exponent (most_digits - 1) (10 * 0 + (b - first_digit))) l ls) failed
-step (building (exponent zero m) l ls) b = signed (power m) l ls b
-step (building (exponent (suc k) m) l ls) b = cond (is_digit b) (building (exponent k (10 * m + (b - first_digit))) l ls) (signed (power m) l ls b)
+step (building raised l ls) b = cond (is_digit b) (building (digits power (most_digits - 1) (10 * 0 + (b - first_digit))) l ls) failed
 step (building (bracketed e) l ls) b = signed e l ls b
 
 abbrev build : Builder → List ℕ → Builder
@@ -96,42 +93,30 @@ build_++ w (b ∷ x) y = build_++ (step w b) x y
 -- A whole factor is in hand.
 abbrev Whole : Hand → Type 0
 Whole empty = ⊥
-Whole (digits k m) = Unit {0}
+Whole (digits written k m) = Unit {0}
 Whole letter = Unit {0}
 Whole raised = ⊥
-Whole (exponent k m) = Unit {0}
 Whole (bracketed e) = Unit {0}
 
 -- A byte that goes on with no number and no z counts as a sign.
 by_sign : (b : ℕ) → is_digit b ≡ false → eqb b caret ≡ false → (h : Hand) → Whole h → (l : Level) (ls : List Level)
     → step (building h l ls) b ≡ signed (in_hand h) l ls b
 by_sign b d c empty w l ls = absurd w
-by_sign b d c (digits zero m) w l ls = refl
-by_sign b d c (digits (suc k) m) w l ls = rw d refl
+by_sign b d c (digits written zero m) w l ls = refl
+by_sign b d c (digits written (suc k) m) w l ls = rw d refl
 by_sign b d c letter w l ls = rw c refl
 by_sign b d c raised w l ls = absurd w
-by_sign b d c (exponent zero m) w l ls = refl
-by_sign b d c (exponent (suc k) m) w l ls = rw d refl
 by_sign b d c (bracketed e) w l ls = refl
 
 -- Digits that are few go into the number in hand.
-build_digits : (k m : ℕ) (x : List ℕ) (l : Level) (ls : List Level) → length x ≤ k → AllByRecursion Digit x
-    → build (building (digits k m) l ls) x ≡ building (digits (k - length x) (numeral m x)) l ls
-build_digits k m [] l ls h a = ap (λ j. building (digits j m) l ls) (omega arith)
-build_digits zero m (b ∷ x) l ls h a = absurd (omega arith)
-build_digits (suc k) m (b ∷ x) l ls h a =
+build_digits : (written : ℕ → Expression) (k m : ℕ) (x : List ℕ) (l : Level) (ls : List Level) → length x ≤ k → AllByRecursion Digit x
+    → build (building (digits written k m) l ls) x ≡ building (digits written (k - length x) (numeral m x)) l ls
+build_digits written k m [] l ls h a = ap (λ j. building (digits written j m) l ls) (omega arith)
+build_digits written zero m (b ∷ x) l ls h a = absurd (omega arith)
+build_digits written (suc k) m (b ∷ x) l ls h a =
     rw (digit_yes b a.0)
-    (build_digits k (10 * m + (b - first_digit)) x l ls (omega arith) a.1
-    ∙ ap (λ j. building (digits j (numeral (10 * m + (b - first_digit)) x)) l ls) (omega arith))
-
-build_exponent : (k m : ℕ) (x : List ℕ) (l : Level) (ls : List Level) → length x ≤ k → AllByRecursion Digit x
-    → build (building (exponent k m) l ls) x ≡ building (exponent (k - length x) (numeral m x)) l ls
-build_exponent k m [] l ls h a = ap (λ j. building (exponent j m) l ls) (omega arith)
-build_exponent zero m (b ∷ x) l ls h a = absurd (omega arith)
-build_exponent (suc k) m (b ∷ x) l ls h a =
-    rw (digit_yes b a.0)
-    (build_exponent k (10 * m + (b - first_digit)) x l ls (omega arith) a.1
-    ∙ ap (λ j. building (exponent j (numeral (10 * m + (b - first_digit)) x)) l ls) (omega arith))
+    (build_digits written k (10 * m + (b - first_digit)) x l ls (omega arith) a.1
+    ∙ ap (λ j. building (digits written j (numeral (10 * m + (b - first_digit)) x)) l ls) (omega arith))
 
 -- A text leads the builder from an empty hand at one level to a whole factor at another, whose expression is e by `worth`.
 record Builds (x : List ℕ) (from : Level) (ls : List Level) (e : Expression) (worth : Level → Expression → Expression) (Kept : Level → Type 0) : Type 0 where
@@ -153,23 +138,23 @@ Formed sum x e = (ls : List Level) → Builds x first ls e total (λ _. Unit {0}
 formed_number : (x : List ℕ) → IsNumber x → Formed factor x (number (numeral 0 x))
 formed_number [] h l ls = absurd (omega (arith, h.some))
 formed_number (b ∷ x) h l ls = record {
-  hand = digits (2 - length x) (numeral 0 (b ∷ x));
+  hand = digits number (2 - length x) (numeral 0 (b ∷ x));
   is_whole = tt;
   level = l;
   kept = refl;
   is_worth = refl;
-  is = rw (digit_yes b h.digits.0) (build_digits 2 (10 * 0 + (b - first_digit)) x l ls (omega (arith, h.few)) h.digits.1);
+  is = rw (digit_yes b h.digits.0) (build_digits number 2 (10 * 0 + (b - first_digit)) x l ls (omega (arith, h.few)) h.digits.1);
 }
 
 formed_power : (x : List ℕ) → IsNumber x → Formed factor (letter_z ∷ caret ∷ x) (power (numeral 0 x))
 formed_power [] h l ls = absurd (omega (arith, h.some))
 formed_power (b ∷ x) h l ls = record {
-  hand = exponent (2 - length x) (numeral 0 (b ∷ x));
+  hand = digits power (2 - length x) (numeral 0 (b ∷ x));
   is_whole = tt;
   level = l;
   kept = refl;
   is_worth = refl;
-  is = rw (digit_yes b h.digits.0) (build_exponent 2 (10 * 0 + (b - first_digit)) x l ls (omega (arith, h.few)) h.digits.1);
+  is = rw (digit_yes b h.digits.0) (build_digits power 2 (10 * 0 + (b - first_digit)) x l ls (omega (arith, h.few)) h.digits.1);
 }
 
 formed_brackets : (x : List ℕ) (e : Expression) → Formed sum x e → Formed factor (left_bracket ∷ x ++ (right_bracket ∷ [])) e

@@ -64,17 +64,19 @@ more_digits n zero (b ∷ x) h a = absurd (omega arith)
 more_digits n (suc k) (b ∷ x) h a =
     rw (digit_yes b a.0) (more_digits n k x (omega arith) a.1 ∙ ap (λ m. inside n (whole m)) (omega arith))
 
+-- A number, from a spot where a first digit may come.
+digits_watched : (n : ℕ) (q : Spot) → ((b : ℕ) → Digit b → step (inside n q) b ≡ inside n (whole (most_digits - 1))) → (x : List ℕ) → IsNumber x
+    → watch (inside n q) x ≡ inside n (whole (most_digits - length x))
+digits_watched n q first [] h = absurd (omega (arith, h.some))
+digits_watched n q first (b ∷ x) h =
+    ap (λ w. watch w x) (first b h.digits.0)
+    ∙ (more_digits n (most_digits - 1) x (omega (arith, h.few)) h.digits.1 ∙ ap (λ m. inside n (whole m)) (omega arith))
+
 pub watch_number : (n : ℕ) (x : List ℕ) → IsNumber x → watch (inside n fresh) x ≡ inside n (whole (most_digits - length x))
-watch_number n [] h = absurd (omega (arith, h.some))
-watch_number n (b ∷ x) h =
-    rw (digit_yes b h.digits.0)
-    (more_digits n 2 x (omega (arith, h.few)) h.digits.1 ∙ ap (λ m. inside n (whole m)) (omega arith))
+watch_number n = digits_watched n fresh (λ b d. rw (digit_yes b d) refl)
 
 pub watch_exponent : (n : ℕ) (x : List ℕ) → IsNumber x → watch (inside n raised) x ≡ inside n (whole (most_digits - length x))
-watch_exponent n [] h = absurd (omega (arith, h.some))
-watch_exponent n (b ∷ x) h =
-    rw (digit_yes b h.digits.0)
-    (more_digits n 2 x (omega (arith, h.few)) h.digits.1 ∙ ap (λ m. inside n (whole m)) (omega arith))
+watch_exponent n = digits_watched n raised (λ b d. rw (digit_yes b d) refl)
 
 -- The watch passes a text and finds a whole factor at its end.
 pub record Passes (n : ℕ) (x : List ℕ) : Type 0 where

@@ -6,11 +6,15 @@ use Rattle.expression.specs.Bytes.{Digit, caret, first_digit, left_bracket, lett
 use Rattle.expression.specs.Limits.{most_brackets, most_digits}
 use Rattle.expression.specs.Values.{Expression, number, power, product_of, sum_of}
 
--- One to three digits.
-pub record IsNumber (x : List ℕ) : Type 0 where
+-- One digit or more, and at most that many.
+pub record IsNumeral (most : ℕ) (x : List ℕ) : Type 0 where
   pub some : 1 ≤ length x
-  pub few : length x ≤ most_digits
+  pub few : length x ≤ most
   pub digits : AllByRecursion Digit x
+
+-- One to three digits.
+abbrev pub IsNumber : List ℕ → Type 0
+IsNumber x = IsNumeral most_digits x
 
 -- The number that digits write, where n is written before them.
 abbrev pub numeral : ℕ → List ℕ → ℕ

@@ -1,5 +1,6 @@
 pub mod Bytes
 pub mod Codes
+pub mod Cursors
 pub mod Fields
 pub mod Grammar
 pub mod Limits

@@ -8,3 +8,7 @@ most_digits = 3
 -- At most this many brackets are open together.
 abbrev pub most_brackets : ℕ
 most_brackets = 8
+
+-- A number of so many digits always fits 16 bits.
+abbrev pub short_number : ℕ
+short_number = 4

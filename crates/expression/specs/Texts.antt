@@ -1,6 +1,10 @@
 -- A text of a language, read from a place of a sheet; and the place where what stands there stops being one.
-use Rattle.std.specs.Prelude.{ℕ, ◌+◌, ◌<◌, ◌≤◌, List, ◌++◌, length}
+use Rattle.std.specs.Prelude.{◌≡◌, ℕ, ◌+◌, ◌<◌, ◌≤◌, List, ◌++◌, length, slice_index}
 use Rattle.std.specs.List.{between}
+
+-- At i stands this byte.
+abbrev pub Stands : ℕ → List ℕ → ℕ → Type 0
+Stands byte s i = (i < length s) × (slice_index s i ≡ byte)
 
 -- From i to j the bytes are a text of L.
 pub record Got (L : List ℕ → Type 0) (s : List ℕ) (i j : ℕ) : Type 0 where

@@ -1,15 +1,23 @@
 //! Expressions for moduli: how they are written, what they are worth over a field, and how they are read from a sheet.
 #![tactic(auto)]
 
+mod cursors;
 mod limits;
 mod lines;
 mod names;
+mod parsed;
+mod parts;
 mod readers;
+mod scopes;
 mod theorems;
 mod tokens;
 mod values;
 
-pub use lines::{ModulusLine, modulus_line};
+pub use cursors::Cursor;
+pub use limits::LINE_END;
+pub use lines::{modulus_line, modulus_line_at};
 pub use names::FieldName;
+pub use parsed::{Parsed, Stop};
+pub use parts::Part;
 pub use theorems::one_expression;
-pub use tokens::Token;
+pub use tokens::{Token, digits_end, numeral_of};

@@ -1,61 +1,60 @@
 //! The tokens of an expression: each number, word and sign is the part of the sheet that it was read from, with its byte place.
-ghost use Rattle.std.specs.Prelude.{◌≡◌, ◌≤◌, length};
-ghost use Rattle.expression.specs.Grammar.{IsNumber, numeral};
+ghost use Rattle.std.specs.Prelude.{◌≡◌, ◌+◌, ◌<◌, ◌≤◌, ◌^◌, length};
+ghost use Rattle.std.specs.List.{AllByRecursion};
+ghost use Rattle.expression.specs.Cursors.{Here};
+ghost use Rattle.expression.specs.Bytes.{Digit};
+ghost use Rattle.expression.specs.Grammar.{numeral};
+ghost use Rattle.expression.specs.Limits.{short_number};
 ghost use Rattle.expression.specs.Readings.{DigitsTo};
 ghost use Rattle.expression.specs.Tokens.{TokenAt};
 
+use crate::cursors::Cursor;
 use crate::limits::MOST_DIGITS;
+use crate::parts::Part;
 
-/// A number, a word or a sign, as it stands on the sheet, and its place; or the sheet's end.
+/// A number, a word or a sign, as it stands on the sheet; or the sheet's end.
 #[derive(Clone, Copy)]
 pub enum Token<'a> {
-    Number(&'a [u8], usize),
-    Word(&'a [u8], usize),
-    Sign(&'a [u8], usize),
+    Number(Part<'a>),
+    Word(Part<'a>),
+    Sign(Part<'a>),
     End(usize),
 }
 
-// Where the digits that stand from `from` on end. A number has three at most, so a fourth is left for what comes after it.
-fn digits(sheet: &[u8], from: usize) -> usize
-    requires { from ≤ length sheet.now }
-    ensures { DigitsTo sheet.now from result }
+/// Where the digits that stand here end, of which there may be `MOST`. One digit more is left for what comes after them.
+pub fn digits_end<const MOST: usize>(from: Cursor) -> usize
+    ensures { Here from.entry (λ s i. DigitsTo MOST s i result) }
 {
-    let mut end = from;
-    while end < sheet.len()
-        && end - from < MOST_DIGITS
-        && sheet[end] >= b'0'
-        && sheet[end] <= b'9'
-    {
-        end += 1;
-    }
-    end
+    let few = from.rest().iter().take(MOST);
+    from.place + few.take_while(|byte| byte.is_ascii_digit()).count()
 }
 
 /// The token at a place. A sign is any one byte that begins no number and is no z: its reader says whether it may stand there.
-pub fn token_at<'a>(sheet: &'a [u8], place: usize) -> Token<'a>
-    requires { place ≤ length sheet.now }
-    ensures { TokenAt sheet.now place result }
+pub fn token_at<'a>(from: Cursor<'a>) -> Token<'a>
+    ensures { Here from.entry (λ s i. TokenAt s i result) }
 {
-    if place >= sheet.len() {
-        return Token::End(place);
-    }
-    let end = digits(sheet, place);
-    if place < end {
-        Token::Number(&sheet[place..end], place)
-    } else if sheet[place] == b'z' {
-        Token::Word(&sheet[place..place + 1], place)
+    let Some(first) = from.byte() else {
+        return Token::End(from.place);
+    };
+    let end = digits_end::<MOST_DIGITS>(from);
+    if from.place < end {
+        Token::Number(from.part(end))
+    } else if first == b'z' {
+        Token::Word(from.part(from.place + 1))
     } else {
-        Token::Sign(&sheet[place..place + 1], place)
+        Token::Sign(from.part(from.place + 1))
     }
 }
 
-/// The number that one to three digits write.
-pub fn numeral_of(written: &[u8]) -> u16
-    requires { IsNumber written.now }
-    ensures { result ≡ numeral 0 written.now }
+/// The number that digits write, of which there are so few that it fits.
+pub fn numeral_of(digits: &[u8]) -> u16
+    requires few { length digits.now ≤ short_number }
+    requires digits { AllByRecursion Digit digits.now }
+    ensures { result ≡ numeral 0 digits.now }
 {
+    // No `fold`: its closure cannot tell how many digits came before, and so not that the next number fits.
     let mut number = 0;
-    for digit in written {
+    for digit in digits {
         number = 10 * number + (*digit - b'0') as u16;
     }
     number

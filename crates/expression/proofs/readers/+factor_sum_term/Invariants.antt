@@ -7,22 +7,22 @@ use Rattle.expression.specs.Readings.{Reading}
 use Rattle.expression.proofs.readers.+factor_sum_term.Given as goal
 
 abbrev pub decreases-factor : goal.decreases-factor
-decreases-factor l = 3 * l.left
+decreases-factor l = 3 * l.scope.left
 
 abbrev pub decreases-term : goal.decreases-term
-decreases-term l = 3 * l.left + 1
+decreases-term l = 3 * l.scope.left + 1
 
 abbrev pub decreases-sum : goal.decreases-sum
-decreases-sum l = 3 * l.left + 2
+decreases-sum l = 3 * l.scope.left + 2
 
-abbrev pub invariant-sum-loop-whole : goal.invariant-sum-loop-whole
-invariant-sum-loop-whole l = Reading sum term (arithmetic_of l.field) l.left l.sheet l.place l.whole.end l.whole.codes
+abbrev pub invariant-sum-loop-scope : goal.invariant-sum-loop-scope
+invariant-sum-loop-scope l = Reading sum term (arithmetic_of l.scope.field) l.scope.left l.from.sheet.now l.from.place l.whole.end l.whole.value
 
-abbrev pub decreases-sum-loop-whole : goal.decreases-sum-loop-whole
-decreases-sum-loop-whole l = length l.sheet - l.whole.end
+abbrev pub decreases-sum-loop-scope : goal.decreases-sum-loop-scope
+decreases-sum-loop-scope l = length l.from.sheet.now - l.whole.end
 
-abbrev pub invariant-term-loop-whole : goal.invariant-term-loop-whole
-invariant-term-loop-whole l = Reading term factor (arithmetic_of l.field) l.left l.sheet l.place l.whole.end l.whole.codes
+abbrev pub invariant-term-loop-scope : goal.invariant-term-loop-scope
+invariant-term-loop-scope l = Reading term factor (arithmetic_of l.scope.field) l.scope.left l.from.sheet.now l.from.place l.whole.end l.whole.value
 
-abbrev pub decreases-term-loop-whole : goal.decreases-term-loop-whole
-decreases-term-loop-whole l = length l.sheet - l.whole.end
+abbrev pub decreases-term-loop-scope : goal.decreases-term-loop-scope
+decreases-term-loop-scope l = length l.from.sheet.now - l.whole.end

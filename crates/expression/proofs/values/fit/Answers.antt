@@ -1,16 +1,17 @@
 -- The codes after the ninth decide whether the first nine are the product.
-use Rattle.std.proofs.Common.{◌≡◌, take, Some, ap, ◌∙◌, arith, rules}
-use Rattle.expression.proofs.Filled.{zero_here, other_here, none_left, fits, no_fit}
+use Rattle.std.proofs.Common.{◌≡◌, eqb, drop, ap, ◌∙◌, rules, tests}
+use Rattle.std.proofs.lemmas.Iterator.{YieldsList-from_slice}
+use Rattle.std.proofs.lemmas.Iterator.Search.{all_from_yields_List}
+use Rattle.std.specs.Bool.{then_some}
+use Rattle.expression.specs.Values.{all_zero}
 use Rattle.expression.proofs.values.fit.Goals as goal
-
-pub loop-i-preserved : goal.loop-i-preserved
-loop-i-preserved c = c.loop-i.invariant ∙ zero_here c.args.product.now c.loop-i.i (omega arith) c.if-product-i-ne0.false
-
-pub returns-then-product-i-ne0 : goal.returns-then-product-i-ne0
-returns-then-product-i-ne0 c = no_fit c.args.product.now (c.loop-i.invariant ∙ other_here c.args.product.now c.loop-i.i (omega arith) c.if-product-i-ne0.true)
 
 pub returns : goal.returns
 returns c =
-    let xs = c.args.product.now in
-    let copied : c.copy_from_slice.new.self ≡ take 9 xs = search rules in
-    ap Some copied ∙ fits xs (c.loop-i.invariant ∙ none_left xs c.loop-i.i (omega arith))
+    let (first, later, _) = c.in_ok-codes.ensures.cases in
+    let fits : c.all.result ≡ all_zero c.in_ok-codes.later.now =
+    all_from_yields_List (λ x. eqb x 0) _ _ c.all.result c.all.ensures.ran (YieldsList-from_slice c.in_ok-codes.later.now cc)
+    (λ x b q k. search (rules, tests)) in
+    c.then_some.ensures
+    ∙ (ap (λ b. then_some b c.in_ok-codes.codes.now) (fits ∙ ap all_zero later)
+    ∙ ap (then_some (all_zero (drop 9 c.args.product.now))) first)
