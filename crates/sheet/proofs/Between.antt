@@ -1,6 +1,5 @@
 -- Parts of a list, cut and joined.
-use Rattle.std.proofs.Common.{◌≡◌, ℕ, suc, ◌+◌, ◌-◌, ◌<◌, ◌≤◌, List, [], ◌∷◌, ◌++◌, length, get_or, take, drop, ap, ◌∙◌, arith, drop-drop, take-add}
-use Rattle.std.proofs.lemmas.List.Edits.{between_none}
+use Rattle.std.proofs.Common.{◌≡◌, ℕ, suc, ◌+◌, ◌-◌, ◌<◌, ◌≤◌, List, ◌∷◌, ◌++◌, length, get_or, take, drop, ap, ◌∙◌, arith, drop-drop, take-add}
 use Rattle.std.proofs.lemmas.List.{drop_more}
 use Rattle.std.specs.List.{between}
 
@@ -16,6 +15,3 @@ part_join s i j k h w =
     let d : i + (j - i) ≡ j = omega arith in
     ap (λ m. take m (drop i s)) e ∙ (take-add (j - i) (k - j) (drop i s)
     ∙ ap (λ l. between i j s ++ take (k - j) l) (drop-drop (j - i) i s ∙ ap (λ m. drop m s) d))
-
-pub one_byte : (s : List ℕ) (i : ℕ) → i < length s → between i (i + 1) s ≡ get_or s i 0 ∷ []
-one_byte s i h = part_first s i (i + 1) (omega arith) (omega arith) ∙ ap (λ x. get_or s i 0 ∷ x) (between_none s (i + 1))

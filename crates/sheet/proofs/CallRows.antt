@@ -1,23 +1,23 @@
 -- Numbers one after the other, as the readers tell them.
-use Rattle.std.proofs.Common.{◌≡◌, ℕ, ◌+◌, ◌<◌, ◌≤◌, List, [], ◌∷◌, ◌++◌, length, get_or, Err, sym, ap, ◌∙◌, subst, inl, inr, append_assoc, append-nil, arith, lit<, length-append}
+use Rattle.std.proofs.Common.{◌≡◌, ℕ, ◌+◌, ◌<◌, ◌≤◌, List, [], ◌∷◌, ◌++◌, length, sym, ap, ◌∙◌, subst, inl, inr, append_assoc, append-nil, arith, length-append}
 use Rattle.std.proofs.lemmas.List.Edits.{between_none, length-between}
 use Rattle.std.specs.List.{between}
 use Rattle.expression.specs.Grammar.{numeral}
-use Rattle.sheet.specs.CallNumbers.{CodesTold, DigitsTo, HeadingTold, NoNumber, NumberAt, NumberText, NumberTold, NumbersAt, NumbersLost, none_at, one_more_at}
-use Rattle.sheet.specs.declared.lines.LineFault.{LineFault}
-use Rattle.sheet.specs.declared.lines.LineFault.TheVariants.{NoRoom, Stops}
+use Rattle.expression.specs.Readings.{DigitsTo}
+use Rattle.expression.specs.Texts.{Stands}
+use Rattle.sheet.specs.CallNumbers.{NoNumber, NumberAt, NumberText, NumbersAt, NumbersLost, none_at, one_more_at}
 use Rattle.sheet.specs.Grammar.{IsCallNumber, Numbers, blank_byte, no_numbers, number_more}
+use Rattle.sheet.specs.Limits.{most_call_digits}
 use Rattle.sheet.proofs.Between.{part_first, part_join}
 
 -- The digits that were found after a blank are a number.
-pub number_text : (s : List ℕ) (i j : ℕ) → i < length s → get_or s i 0 ≡ blank_byte → DigitsTo s (i + 1) j → (j ≡ i + 1 → ⊥)
-    → NumberText s i (i + 1 + length (between (i + 1) j s)) (between (i + 1) j s)
-number_text s i j h e d ne =
+pub number_text : {s : List ℕ} {i j end : ℕ} {x : List ℕ} → Stands blank_byte s i → DigitsTo most_call_digits s (i + 1) j → (j ≡ i + 1 → ⊥)
+    → x ≡ between (i + 1) j s → end ≡ j → NumberText s i end x
+number_text {s} {i} {j} {end} {x} (h, e) d some text ends =
     let len = length-between s (i + 1) j d.within in
     let more = d.more in
     let few = d.few in
-    let end : j ≡ i + 1 + length (between (i + 1) j s) = omega arith in
-    subst (λ m. NumberText s i m (between (i + 1) j s)) end (record {
+    rw (text, ends) (record {
       more = omega arith;
       within = d.within;
       is = part_first s i j (omega arith) d.within ∙ ap (λ b. b ∷ between (i + 1) j s) e;
@@ -59,18 +59,6 @@ lost_after {least} {most} {n} {s} {i} {j} {p} {ns} row e lost =
       ];
     }
 
--- What is wanting where few numbers will do is wanting where more are asked for.
-pub more_wanted : {least most low high : ℕ} {s : List ℕ} {i p : ℕ} → low ≤ least → high ≤ most → NumbersLost low high s i p → NumbersLost least most s i p
-more_wanted l h lost = record {
-  j = lost.j;
-  ns = lost.ns;
-  before = lost.before;
-  wants = elim lost.wants [
-    | inl (few, is, no_blank) ↦ inl (omega arith, is, no_blank)
-    | inr (few, is, no_digit) ↦ inr (omega arith, is, no_digit)
-  ];
-}
-
 -- A number that is wanting after fewer than `least` others.
 pub wanting : {least most : ℕ} {s : List ℕ} {i j p : ℕ} {ns : List ℕ} → NumbersAt s i j ns → length ns < least → length ns < most → NoNumber s j p
     → NumbersLost least most s i p
@@ -80,31 +68,6 @@ wanting {j = j} {ns = ns} row few fewer lost = record {
   before = row;
   wants = elim lost [ inl (is, no_blank) ↦ inl (few, is, no_blank) | inr (is, no_digit) ↦ inr (fewer, is, no_digit) ];
 }
-
--- A number that is wanting though its blank is there.
-pub wanting_digit : {least most : ℕ} {s : List ℕ} {i j p : ℕ} {ns : List ℕ} → NumbersAt s i j ns → length ns < most → j < length s
-    → get_or s j 0 ≡ blank_byte → NoNumber s j p → NumbersLost least most s i p
-wanting_digit {j = j} {ns = ns} row fewer h e lost = record {
-  j = j;
-  ns = ns;
-  before = row;
-  wants = elim lost [ inl (is, (w, no_blank)) ↦ absurd (no_blank h e) | inr (is, no_digit) ↦ inr (fewer, is, no_digit) ];
-}
-
--- Where a call's first two numbers are wanting.
-pub channel_lost : (s : List ℕ) (i : ℕ) (e : LineFault) → i ≤ length s → NumberTold s i (Err e) → HeadingTold s i (Err e)
-channel_lost s i (Stops p) h lost = wanting (none_at h) (lit< tt) (lit< tt) lost
-channel_lost s i NoRoom h lost = lost
-
-pub slot_lost : (s : List ℕ) (i j n : ℕ) (e : LineFault) → i ≤ length s → NumberAt s i j n → NumberTold s j (Err e) → HeadingTold s i (Err e)
-slot_lost s i j n (Stops p) h channel lost = wanting (one_at channel h) (lit< tt) (lit< tt) lost
-slot_lost s i j n NoRoom h channel lost = lost
-
--- Where a code is wanting after its blank.
-pub code_lost : (s : List ℕ) (i j most : ℕ) (ns : List ℕ) (e : LineFault) → NumbersAt s i j ns → length ns < most → j < length s
-    → get_or s j 0 ≡ blank_byte → NumberTold s j (Err e) → CodesTold s i most (Err e)
-code_lost s i j most ns (Stops p) row few h b lost = wanting_digit row few h b lost
-code_lost s i j most ns NoRoom row few h b lost = tt
 
 pub numbers_join : {x y : List ℕ} {ns ms : List ℕ} → Numbers x ns → Numbers y ms → Numbers (x ++ y) (ns ++ ms)
 numbers_join no_numbers b = b

@@ -1,9 +1,10 @@
 -- Texts one after the other: where the first part of a sequence fails, or what follows it, there the whole fails.
-use Rattle.std.proofs.Common.{◌≡◌, ℕ, zero, suc, ◌+◌, ◌-◌, ◌<◌, ◌≤◌, ◌⊎◌, List, [], ◌∷◌, ◌++◌, length, get_or, take, drop, sym, refl, ap, ◌∙◌, subst, inl, inr, append_assoc, append-nil, arith, drop-drop, take-add}
+use Rattle.std.proofs.Common.{◌≡◌, ℕ, zero, suc, ◌+◌, ◌<◌, ◌≤◌, ◌⊎◌, List, [], ◌∷◌, ◌++◌, length, get_or, sym, refl, ap, ◌∙◌, subst, inl, inr, append_assoc, append-nil, arith}
 use Rattle.std.proofs.lemmas.List.Edits.{between_more}
 use Rattle.std.specs.List.{between}
 use Rattle.expression.specs.Texts.{Got, Lost}
 use Rattle.sheet.specs.Sequences.{After, Rest, Times}
+use Rattle.sheet.proofs.Between.{part_join}
 
 -- A text stands first in one way only, and tells one value.
 abbrev pub Told : {X : Type 0} → (X → List ℕ → Type 0) → Type 0
@@ -33,16 +34,9 @@ cuts (u ∷ x) y (v ∷ a) b e =
 
 pub front_nil : (x y : List ℕ) → x ++ y ≡ [] → x ≡ []
 front_nil [] y e = refl
-front_nil (u ∷ x) y e = let z : ◌≡◌ {A = ℕ} 0 1 = cc in absurd (omega arith)
+front_nil (u ∷ x) y e = cc
 
--- Parts of a text.
-pub join : (s : List ℕ) (i j k : ℕ) → i ≤ j → j ≤ k → between i k s ≡ between i j s ++ between j k s
-join s i j k h w =
-    let e : k - i ≡ (j - i) + (k - j) = omega arith in
-    let d : i + (j - i) ≡ j = omega arith in
-    ap (λ m. take m (drop i s)) e
-    ∙ (take-add (j - i) (k - j) (drop i s) ∙ ap (λ l. between i j s ++ take (k - j) l) (drop-drop (j - i) i s ∙ ap (λ m. drop m s) d))
-
+-- A text and the byte after it.
 one_byte : (s : List ℕ) (i p : ℕ) (t : List ℕ) → i ≤ p → p < length s → between i (p + 1) s ++ t ≡ between i p s ++ (get_or s p 0 ∷ t)
 one_byte s i p t h w = ap (λ x. x ++ t) (between_more s i p 0 h w) ∙ append_assoc (between i p s) (get_or s p 0 ∷ []) t
 
@@ -75,13 +69,6 @@ pub got_like : (L M : List ℕ → Type 0) (s : List ℕ) (i j : ℕ) → ((x : 
 got_like L M s i j to h = record { more = h.more; within = h.within; is = to _ h.is }
 
 module _ {X : Type 0} (C M : X → List ℕ → Type 0) (one : Told C) (s : List ℕ) where
-  pub got_got : (v : X) (i j k : ℕ) → Got (C v) s i j → Got (M v) s j k → Got (After C M) s i k
-  got_got v i j k g h = record {
-    more = omega (arith, g.more, h.more);
-    within = h.within;
-    is = (v, (between i j s, (between j k s, g.is, h.is, join s i j k g.more h.more)));
-  }
-
   -- What follows a text fails.
   pub got_lost : (v : X) (i j p : ℕ) → Got (C v) s i j → Lost (M v) s j p → Lost (After C M) s i p
   got_lost v i j p g h =
@@ -91,7 +78,7 @@ module _ {X : Type 0} (C M : X → List ℕ → Type 0) (one : Told C) (s : List
       (λ lt t (w, (x, (y, cx, my, e))). dies (M v) s j p h lt t (same w x y (between j p s ++ (get_or s p 0 ∷ t)) cx my (sym (whole (get_or s p 0 ∷ t)) ∙ e)))
     where
       parts : between i p s ≡ between i j s ++ between j p s
-      parts = join s i j p g.more h.more
+      parts = part_join s i j p g.more h.more
 
       whole : (t : List ℕ) → between i p s ++ t ≡ between i j s ++ (between j p s ++ t)
       whole t = ap (λ k. k ++ t) parts ∙ append_assoc (between i j s) (between j p s) t
@@ -132,10 +119,6 @@ told_after {X} C M one many = alone (After C M) go
         let (p, q, r) = one v w c (d ++ y) k (l ++ b) cv cw (sym (append_assoc c d y) ∙ (ap (λ u. u ++ y) (sym e) ∙ (g ∙ (ap (λ u. u ++ b) f ∙ append_assoc k l b)))) in
         let (_, m, n) = many v tt tt d y l b md (subst (λ u. M u l) (sym p) ml) r in
         (cc, n)
-
-pub alone_times : (L : List ℕ → Type 0) → Alone L → (n : ℕ) → Alone (Times L n)
-alone_times L one zero = alone (Times L zero) (λ x y a b p q e. (p ∙ sym q, ap (λ u. u ++ y) (sym p) ∙ (e ∙ ap (λ u. u ++ b) q)))
-alone_times L one (suc n) = told_after {X = Unit {0}} (λ _. L) (λ _. Times L n) one (λ _. alone_times L one n)
 
 -- Some texts can always follow, where there is one.
 pub some_times : (L : List ℕ → Type 0) (x : List ℕ) → L x → (n : ℕ) → (rest : List ℕ) × Times L n rest

@@ -87,20 +87,20 @@ module _ (least most : ℕ) (low : least ≤ 1) (some : 1 ≤ most) (few : most 
 
   no_empty : AnyCount least most [] → ⊥
   no_empty (n, c) = elim (one_or_two n [] (omega (arith, c.high)) c.is) [
-    | inl (h, e) ↦ let z : ◌≡◌ {A = ℕ} 0 1 = cc in omega arith
-    | inr u ↦ let z : ◌≡◌ {A = ℕ} 0 1 = cc u.is in omega arith
+    | inl (h, e) ↦ cc
+    | inr u ↦ cc u.is
   ]
 
   no_single : (d : ℕ) → AnyCount least most ((first_digit + d) ∷ []) → ⊥
   no_single d (n, c) = elim (one_or_two n ((first_digit + d) ∷ []) (omega (arith, c.high)) c.is) [
-    | inl (h, e) ↦ let z : ◌≡◌ {A = ℕ} 0 1 = cc in omega arith
-    | inr u ↦ let z : ◌≡◌ {A = ℕ} 0 1 = cc u.is in omega arith
+    | inl (h, e) ↦ cc
+    | inr u ↦ cc u.is
   ]
 
   no_double : (d e : ℕ) → AnyCount least most ((first_digit + d) ∷ (first_digit + e) ∷ []) → ⊥
   no_double d e (n, c) = elim (one_or_two n ((first_digit + d) ∷ (first_digit + e) ∷ []) (omega (arith, c.high)) c.is) [
     | inl (h, f) ↦ let g : first_digit + e ≡ line_end = cc in omega arith
-    | inr u ↦ let z : ◌≡◌ {A = ℕ} 0 1 = cc u.is in omega arith
+    | inr u ↦ cc u.is
   ]
 
   byte_more : (j k : ℕ) (w : List ℕ) (b : ℕ) → i ≤ j → k ≡ j + 1 → j < length s → between i j s ≡ w → get_or s j 0 ≡ b → between i k s ≡ w ++ b ∷ []

@@ -1,63 +1,51 @@
 -- From the answers of the sections to that of the sheet.
-use Rattle.std.proofs.Common.{◌≡◌, ℕ, ◌+◌, ◌≤◌, List, [], ◌∷◌, ◌++◌, map, length, Some, None, Ok, Err, vec_items, Option, sym, refl, ap, ◌∙◌, append-nil, arith}
+use Rattle.std.proofs.Common.{◌≡◌, ℕ, ◌+◌, ◌≤◌, List, [], ◌∷◌, ◌++◌, map, length, Some, None, Err, vec_items, Option, sym, refl, ap, ◌∙◌, append-nil}
+use Rattle.std.specs.Global.{Vec}
 use Rattle.std.specs.Option.{option_or}
 use Rattle.std.specs.List.{flat_map}
 use Rattle.algebra.specs.Field.{Arithmetic}
 use Rattle.expression.specs.Fields.{arithmetic_of}
 use Rattle.expression.specs.Grammar.{IsModulusLine}
-use Rattle.expression.specs.Texts.{Got}
+use Rattle.expression.specs.Texts.{Got, Lost}
 use Rattle.expression.specs.Values.{value}
 use Rattle.expression.specs.declared.names.FieldName.{FieldName}
+use Rattle.expression.specs.declared.parsed.Parsed.{Parsed}
 use Rattle.rack.specs.Racks.{given_by}
-use Rattle.sheet.specs.Drafts.{DraftTold, Drafted}
-use Rattle.sheet.specs.Faults.{fault_of}
-use Rattle.sheet.specs.Grammar.{Content, IsFieldLine, IsSection, IsSheet}
-use Rattle.sheet.specs.Limits.{longest_sheet, most_moduli}
+use Rattle.rack.specs.declared.call.Call.{Call}
+use Rattle.sheet.specs.Drafts.{Drafted}
+use Rattle.sheet.specs.Faults.{Failed, fault_of}
+use Rattle.sheet.specs.Grammar.{Content, IsCallLine, IsFieldLine, IsSection, IsSheet}
+use Rattle.sheet.specs.Limits.{longest_sheet, most_calls, most_moduli}
 use Rattle.sheet.specs.Refusals.{SheetTold, first_without, moduli_codes}
-use Rattle.sheet.specs.Sections.{AnyField, AnyModuli, CallsTold, ModuliLost, ModuliRead, codes_in}
+use Rattle.sheet.specs.Sections.{AnyField, AnyModuli, ModuliRead, codes_in}
 use Rattle.sheet.specs.Sequences.{Any}
-use Rattle.sheet.specs.declared.counts.Counted.{Counted}
 use Rattle.sheet.specs.declared.lines.LineFault.{LineFault}
 use Rattle.sheet.specs.declared.lines.LineFault.TheVariants.{NoRoom, Stops}
 use Rattle.sheet.specs.declared.moduli.Moduli.{Moduli}
-use Rattle.sheet.specs.declared.sections.Called.{Called}
 use Rattle.sheet.proofs.Chains.{got_like}
 use Rattle.sheet.proofs.Noting.{codes_all, first_later}
-use Rattle.sheet.proofs.Wholes.{calls_lost, carrying_lost, sheet_got, spare_lost, stops}
+use Rattle.sheet.proofs.Wholes.{sheet_got, stops}
 
 pub any_field : (s : List ℕ) (i j : ℕ) (name : FieldName) → Got (λ x. IsSection 1 1 IsFieldLine x (name ∷ [])) s i j → Got AnyField s i j
 any_field s i j name g = got_like (λ x. IsSection 1 1 IsFieldLine x (name ∷ [])) AnyField s i j (λ x h. (name, h)) g
 
-pub any_moduli : (f : Arithmetic) (s : List ℕ) (i line : ℕ) (a b : Moduli) (c : Counted) → ModuliRead f s i line a b c → Got AnyModuli s i c.end
+pub any_moduli : (f : Arithmetic) (s : List ℕ) (i line : ℕ) (a b : Moduli) (c : Parsed ℕ) → ModuliRead f s i line a b c → Got AnyModuli s i c.end
 any_moduli f s i line a b c r =
     got_like (λ x. IsSection 1 most_moduli IsModulusLine x r.expressions) AnyModuli s i c.end (λ x h. (r.expressions, h)) r.section
 
-pub carrying_told : (s : List ℕ) (i : ℕ) (fault : LineFault) → Got AnyField s 0 i → ModuliLost s i fault → DraftTold s (Err fault)
-carrying_told s i (Stops p) g h = carrying_lost s p i g h
-carrying_told s i NoRoom g h = tt
-
-pub spare_told : (s : List ℕ) (i j : ℕ) (fault : LineFault) → Got AnyField s 0 i → Got AnyModuli s i j → ModuliLost s j fault → DraftTold s (Err fault)
-spare_told s i j (Stops p) g k h = spare_lost s p i j g k h
-spare_told s i j NoRoom g k h = tt
-
-pub calls_told : (s : List ℕ) (i j k : ℕ) (fault : LineFault) → Got AnyField s 0 i → Got AnyModuli s i j → Got AnyModuli s j k
-    → CallsTold s k (Err fault) → DraftTold s (Err fault)
-calls_told s i j k (Stops p) g l m h = calls_lost s p i j k g l m h
-calls_told s i j k NoRoom g l m h = tt
-
 both_none : (a b : Option ℕ) → option_or a b ≡ None → (a ≡ None) × (b ≡ None)
 both_none None b e = (refl, e)
-both_none (Some n) b e = let z : ◌≡◌ {A = ℕ} 0 1 = cc in absurd (omega arith)
+both_none (Some n) b e = cc
 
-module _ (s : List ℕ) (name : FieldName) (i : ℕ) (m₀ m₁ m₂ : Moduli) (many more : Counted) (called : Called)
+module _ (s : List ℕ) (name : FieldName) (i : ℕ) (m₀ m₁ m₂ : Moduli) (many more : Parsed ℕ) (called : Parsed (Vec Call))
     (none : m₀.bad ≡ None) (empty : vec_items m₀.codes ≡ []) (fields : Got (λ x. IsSection 1 1 IsFieldLine x (name ∷ [])) s 0 i)
-    (carrying : ModuliRead (arithmetic_of name) s i 3 m₀ m₁ many) (spare : ModuliRead (arithmetic_of name) s many.end (3 + many.count + 1) m₁ m₂ more)
-    (calls : CallsTold s more.end (Ok called)) where
+    (carrying : ModuliRead (arithmetic_of name) s i 3 m₀ m₁ many) (spare : ModuliRead (arithmetic_of name) s many.end (3 + many.value + 1) m₁ m₂ more)
+    (calls : Got (λ x. IsSection 0 most_calls IsCallLine x (map given_by (vec_items called.value))) s more.end called.end) where
   bads : m₂.bad ≡ first_without (arithmetic_of name) 3 carrying.expressions (first_without (arithmetic_of name) (3 + length carrying.expressions + 1) spare.expressions None)
   bads =
       let later = first_without (arithmetic_of name) (3 + length carrying.expressions + 1) spare.expressions None in
       spare.noted.bad_is
-      ∙ (ap (λ b. option_or b (first_without (arithmetic_of name) (3 + many.count + 1) spare.expressions None))
+      ∙ (ap (λ b. option_or b (first_without (arithmetic_of name) (3 + many.value + 1) spare.expressions None))
       (carrying.noted.bad_is ∙ ap (λ b. option_or b (first_without (arithmetic_of name) 3 carrying.expressions None)) none)
       ∙ (ap (λ n. option_or (first_without (arithmetic_of name) 3 carrying.expressions None) (first_without (arithmetic_of name) (3 + n + 1) spare.expressions None)) carrying.count_is
       ∙ sym (first_later (arithmetic_of name) 3 carrying.expressions later)))
@@ -75,10 +63,10 @@ module _ (s : List ℕ) (name : FieldName) (i : ℕ) (m₀ m₁ m₂ : Moduli) (
       ∙ ap (λ x. x ++ flat_map (λ e. codes_in (value (arithmetic_of name) e)) spare.expressions)
       (carrying.noted.codes_are ∙ ap (λ x. x ++ flat_map (λ e. codes_in (value (arithmetic_of name) e)) carrying.expressions) empty)))
 
-  pub drafted : Drafted s (record { end = called.end; field = name; carriers = many.count; moduli = m₂; calls = called.calls })
+  pub drafted : Drafted s (record { field = name; carriers = many.value; moduli = m₂; calls = called.value }) called.end
   drafted = record {
-    content = record { field = name; carrying = carrying.expressions; spare = spare.expressions; calls = map given_by (vec_items called.calls) };
-    sheet = sheet_got s i many.end more.end called.end name carrying.expressions spare.expressions (map given_by (vec_items called.calls))
+    content = record { field = name; carrying = carrying.expressions; spare = spare.expressions; calls = map given_by (vec_items called.value) };
+    sheet = sheet_got s i many.end more.end called.end name carrying.expressions spare.expressions (map given_by (vec_items called.value))
         fields carrying.section spare.section calls;
     field_is = refl;
     carriers_are = carrying.count_is;
@@ -87,8 +75,8 @@ module _ (s : List ℕ) (name : FieldName) (i : ℕ) (m₀ m₁ m₂ : Moduli) (
     calls_are = refl;
   }
 
-pub fault_told : (s : List ℕ) (fault : LineFault) → length s ≤ longest_sheet → DraftTold s (Err fault) → SheetTold s (Err (fault_of fault))
-fault_told s (Stops p) le h = (le, stops s p h)
+pub fault_told : (s : List ℕ) (fault : LineFault) → length s ≤ longest_sheet → Failed (Lost (Any IsSheet) s 0) fault → SheetTold s (Err (fault_of fault))
+fault_told s (Stops stop) le h = (le, stops s stop.place h)
 fault_told s NoRoom le h = le
 
 pub any_sheet : (s : List ℕ) (j : ℕ) (content : Content) → Got (λ x. IsSheet x content) s 0 j → Got (Any IsSheet) s 0 j

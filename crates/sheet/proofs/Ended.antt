@@ -2,7 +2,7 @@
 use Rattle.std.proofs.Common.{◌≡◌, ℕ, List, [], ◌∷◌, ◌++◌, sym, refl, ap, ◌∙◌}
 use Rattle.std.specs.List.{AllByRecursion}
 use Rattle.expression.specs.Bytes.{line_end}
-use Rattle.sheet.proofs.Chains.{Alone, Told, alone}
+use Rattle.sheet.proofs.Chains.{Told}
 
 -- No byte of the text ends a line.
 abbrev pub Plain : List ℕ → Type 0
@@ -31,9 +31,6 @@ pub same_lines : (x y a b : List ℕ) → Ended x → Ended a → x ++ y ≡ a +
 same_lines x y a b p q e =
     let (f, g) = ends_same p.text q.text y b p.plain q.plain (ap (λ k. k ++ y) (sym p.is) ∙ (e ∙ ap (λ k. k ++ b) q.is)) in
     (p.is ∙ (ap (λ k. k ++ line_end ∷ []) f ∙ sym q.is), g)
-
-pub alone_lines : (L : List ℕ → Type 0) → ((x : List ℕ) → L x → Ended x) → Alone L
-alone_lines L ends = alone L (λ x y a b p q e. same_lines x y a b (ends x p) (ends a q) e)
 
 pub told_lines : {X : Type 0} (C : X → List ℕ → Type 0) → ((v : X) (x : List ℕ) → C v x → Ended x) → ((v w : X) (x : List ℕ) → C v x → C w x → v ≡ w) → Told C
 told_lines C ends one v w x y a b p q e =

@@ -1,6 +1,6 @@
 mod Between
+mod CallParts
 mod CallRows
-mod CallWords
 mod Calls
 mod Chains
 mod Contents
@@ -8,6 +8,7 @@ mod Decimals
 mod Drafting
 mod Ended
 mod Endings
+mod Exits
 mod FieldSections
 mod LineKinds
 mod Loops
@@ -17,4 +18,4 @@ mod OneCall
 mod Rows
 mod Walk
 mod Wholes
-mod Words
+mod Tables

@@ -1,21 +1,29 @@
 -- The kinds of lines: each line holds byte 10 at its end only, and there is one of each kind.
-use Rattle.std.proofs.Common.{ℕ, List, [], ◌∷◌, ◌++◌, codes, sym, refl, append_assoc, arith, lit≤}
+use Rattle.std.proofs.Common.{◌≡◌, ℕ, cond, eqb, List, [], ◌∷◌, get_or, ◌++◌, codes, sym, refl, ap, ◌∙◌, append_assoc, arith, lit≤, rules}
+use Rattle.std.proofs.ByRecursion.{All-weaker}
 use Rattle.std.specs.List.{AllByRecursion}
 use Rattle.expression.specs.Bytes.{Digit, line_end}
-use Rattle.expression.specs.Grammar.{Kind, Phrase, a_number, a_power, a_z, in_brackets, one_factor, one_term, plus, times}
+use Rattle.expression.proofs.Unambiguous.{one_expression}
+use Rattle.expression.specs.Fields.{field_word}
+use Rattle.expression.specs.Grammar.{IsModulusLine, Kind, Phrase, a_number, a_power, a_z, in_brackets, one_factor, one_term, plus, times}
 use Rattle.expression.specs.Lines.{AnyLine}
 use Rattle.expression.specs.Values.{Expression, power}
+use Rattle.expression.specs.declared.names.FieldName.{FieldName}
 use Rattle.expression.specs.declared.names.FieldName.TheVariants.{Bits, Bytes, Clock}
 use Rattle.rack.specs.Ledger.{Request, opens}
-use Rattle.sheet.specs.CallLines.{AnyCallLine}
-use Rattle.sheet.specs.Grammar.{IsCallLine, IsCallNumber, Numbers, close_line, measure_line, no_numbers, number_more, open_line, put_line, read_line, strike_line}
+use Rattle.sheet.specs.CallNames.{word}
+use Rattle.sheet.specs.Grammar.{IsCallLine, IsCallNumber, IsFieldLine, Numbers, no_numbers, number_more, open_line}
+use Rattle.sheet.specs.Limits.{most_calls, most_moduli}
 use Rattle.sheet.specs.Parts.{AnyFieldLine}
-use Rattle.sheet.proofs.Chains.{Alone}
-use Rattle.sheet.proofs.Ended.{Ended, Plain, alone_lines, plain_append}
+use Rattle.sheet.specs.declared.call_names.CallName.{CallName}
+use Rattle.sheet.specs.declared.call_names.CallName.TheVariants.{Close, Measure, Open, Put, Read, Strike}
+use Rattle.sheet.proofs.CallParts.{call_parts}
+use Rattle.sheet.proofs.Ended.{Ended, Plain, plain_append, told_lines}
+use Rattle.sheet.proofs.OneCall.{one_call}
+use Rattle.sheet.proofs.Rows.{SectionKind}
 
 plain_digits : (x : List ℕ) → AllByRecursion Digit x → Plain x
-plain_digits [] h = tt
-plain_digits (b ∷ x) h = ((λ e. omega (arith, h.0.0)), plain_digits x h.1)
+plain_digits x h = All-weaker Digit (λ b. ¬ (b ≡ line_end)) (λ b d e. omega (arith, d.0)) x h
 
 plain_phrase : {k : Kind} {n : ℕ} {x : List ℕ} {e : Expression} → Phrase k n x e → Plain x
 plain_phrase (a_number {x = x} h) = plain_digits x h.digits
@@ -30,50 +38,71 @@ plain_phrase (plus {x = x} h k) = plain_append x _ (plain_phrase h) ((λ e. omeg
 modulus_ended : (x : List ℕ) → AnyLine x → Ended x
 modulus_ended x (e, h) = record { text = h.text; plain = plain_phrase h.phrase; is = h.is }
 
+plain_field : (name : FieldName) → Plain (field_word name)
+plain_field Bits = search rules
+plain_field Bytes = search rules
+plain_field Clock = search rules
+
 field_ended : (x : List ℕ) → AnyFieldLine x → Ended x
-field_ended x (Bits, e) = record { text = codes "bits"; plain = ((λ e. omega arith), ((λ e. omega arith), ((λ e. omega arith), ((λ e. omega arith), tt)))); is = e }
-field_ended x (Bytes, e) =
-    record { text = codes "bytes"; plain = ((λ e. omega arith), ((λ e. omega arith), ((λ e. omega arith), ((λ e. omega arith), ((λ e. omega arith), tt))))); is = e }
-field_ended x (Clock, e) =
-    record { text = codes "clock"; plain = ((λ e. omega arith), ((λ e. omega arith), ((λ e. omega arith), ((λ e. omega arith), ((λ e. omega arith), tt))))); is = e }
+field_ended x (name, e) = record { text = field_word name; plain = plain_field name; is = e }
 
 pub plain_numbers : {x ns : List ℕ} → Numbers x ns → Plain x
 plain_numbers no_numbers = tt
 plain_numbers (number_more {x} {rest} h more) = ((λ e. omega arith), plain_append x rest (plain_digits x h.digits) (plain_numbers more))
 
--- A word with no byte 10, and numbers.
-word_ended : (word x ns : List ℕ) → Plain word → Numbers x ns → Ended (word ++ (x ++ line_end ∷ []))
-word_ended word x ns p h = record { text = word ++ x; plain = plain_append word x p (plain_numbers h); is = sym (append_assoc word x (line_end ∷ [])) }
+plain_name : (name : CallName) → Plain (word name)
+plain_name Open = search rules
+plain_name Put = search rules
+plain_name Strike = search rules
+plain_name Read = search rules
+plain_name Measure = search rules
+plain_name Close = search rules
 
 call_ended : {x : List ℕ} {r : Request} → IsCallLine x r → Ended x
-call_ended (open_line h) = word_ended (codes "open") _ _ ((λ e. omega arith), ((λ e. omega arith), ((λ e. omega arith), ((λ e. omega arith), tt)))) h
-call_ended (put_line h _) = word_ended (codes "put") _ _ ((λ e. omega arith), ((λ e. omega arith), ((λ e. omega arith), tt))) h
-call_ended (strike_line h) =
-    word_ended (codes "strike") _ _ ((λ e. omega arith), ((λ e. omega arith), ((λ e. omega arith), ((λ e. omega arith), ((λ e. omega arith), ((λ e. omega arith), tt)))))) h
-call_ended (read_line h) = word_ended (codes "read") _ _ ((λ e. omega arith), ((λ e. omega arith), ((λ e. omega arith), ((λ e. omega arith), tt)))) h
-call_ended (measure_line h _) =
-    word_ended (codes "measure") _ _
-    ((λ e. omega arith), ((λ e. omega arith), ((λ e. omega arith), ((λ e. omega arith), ((λ e. omega arith), ((λ e. omega arith), ((λ e. omega arith), tt))))))) h
-call_ended (close_line h) = word_ended (codes "close") _ _ ((λ e. omega arith), ((λ e. omega arith), ((λ e. omega arith), ((λ e. omega arith), ((λ e. omega arith), tt))))) h
+call_ended line =
+    let p = call_parts line in
+    let t = p.tail in
+    record {
+      text = word p.name ++ t.text;
+      plain = plain_append (word p.name) t.text (plain_name p.name) (plain_numbers t.numbers);
+      is = p.is ∙ (ap (λ u. word p.name ++ u) t.is ∙ sym (append_assoc (word p.name) t.text (line_end ∷ [])));
+    }
 
-pub alone_field : Alone AnyFieldLine
-alone_field = alone_lines AnyFieldLine field_ended
+-- The field that a line names, by its second letter.
+abbrev named_by : ℕ → FieldName
+named_by b = cond (eqb b 105) Bits (cond (eqb b 121) Bytes Clock)
 
-pub alone_modulus : Alone AnyLine
-alone_modulus = alone_lines AnyLine modulus_ended
+names : (name : FieldName) → named_by (get_or (field_word name ++ line_end ∷ []) 1 0) ≡ name
+names Bits = refl
+names Bytes = refl
+names Clock = refl
 
-pub alone_call : Alone AnyCallLine
-alone_call = alone_lines AnyCallLine (λ x (r, h). call_ended h)
+one_field : (a b : FieldName) (x : List ℕ) → IsFieldLine x a → IsFieldLine x b → a ≡ b
+one_field a b x e f = sym (names a) ∙ (ap (λ l. named_by (get_or l 1 0)) (sym e ∙ f) ∙ names b)
 
--- A line of each kind.
-pub some_field : AnyFieldLine (codes "bits\n")
-some_field = (Bits, refl)
+pub field_kind : SectionKind IsFieldLine 1 1
+field_kind = record {
+  few = lit≤ tt;
+  told = told_lines (λ name x. IsFieldLine x name) (λ name x h. field_ended x (name, h)) one_field;
+  line = codes "bits\n";
+  some = (Bits, refl);
+}
 
-pub some_modulus : AnyLine (codes "z\n")
-some_modulus = (power 1, record { text = codes "z"; phrase = one_term (one_factor a_z); is = refl })
+pub modulus_kind : SectionKind IsModulusLine 1 most_moduli
+modulus_kind = record {
+  few = lit≤ tt;
+  told = told_lines (λ e x. IsModulusLine x e) (λ e x h. modulus_ended x (e, h)) (λ a b x. one_expression x a b);
+  line = codes "z\n";
+  some = (power 1, record { text = codes "z"; phrase = one_term (one_factor a_z); is = refl });
+}
 
 a_zero : IsCallNumber (48 ∷ [])
 a_zero = record { some = lit≤ tt; few = lit≤ tt; digits = ((lit≤ tt, lit≤ tt), tt) }
 
-pub some_call : AnyCallLine (codes "open 0 0\n")
-some_call = (opens 0 0, open_line (number_more a_zero (number_more a_zero no_numbers)))
+pub call_kind : SectionKind IsCallLine 0 most_calls
+call_kind = record {
+  few = lit≤ tt;
+  told = told_lines (λ r x. IsCallLine x r) (λ r x h. call_ended h) (λ a b x. one_call x a b);
+  line = codes "open 0 0\n";
+  some = (opens 0 0, open_line (number_more a_zero (number_more a_zero no_numbers)));
+}

@@ -1,24 +1,17 @@
--- A machine that follows a line with a call byte by byte. It serves to show that after some bytes no such line goes on.
-use Rattle.std.proofs.Common.{ℕ, zero, suc, Bool, cond, ◌&&◌, eqb, ltb, leb, List, [], ◌∷◌, codes}
+-- A machine that follows a line with a call byte by byte, from the end of the name on. It serves to show that after some bytes no such
+-- line goes on.
+use Rattle.std.proofs.Common.{ℕ, zero, suc, Bool, cond, ◌&&◌, eqb, ltb, leb, List, [], ◌∷◌}
 use Rattle.expression.specs.Bytes.{first_digit, last_digit, line_end}
 use Rattle.sheet.specs.CallNames.{least_numbers, most_numbers}
 use Rattle.sheet.specs.Grammar.{blank_byte}
 use Rattle.sheet.specs.declared.call_names.CallName.{CallName}
-use Rattle.sheet.specs.declared.call_names.CallName.TheVariants.{Close, Measure, Open, Put, Read, Strike}
 
--- Before the line; in its name, with the letters that are to come; after k numbers, the last of which may have so many digits more;
--- after a blank; after the line; where no line goes on.
+-- After k numbers, the last of which may have so many digits more; after a blank; after the line; where no line goes on.
 pub data State : Type 0 where
-  before : State
-  spells : ℕ → List ℕ → CallName → State
   after : CallName → (k room : ℕ) → State
   wants : CallName → (k : ℕ) → State
   over : State
   dead : State
-
-abbrev pub spelling : List ℕ → CallName → State
-spelling [] name = after name 0 0
-spelling (b ∷ letters) name = spells b letters name
 
 abbrev pub digit : ℕ → Bool
 digit b = leb first_digit b && leb b last_digit
@@ -28,19 +21,7 @@ sign name k b =
     cond (eqb b blank_byte) (cond (ltb k (most_numbers name)) (wants name k) dead)
     (cond (eqb b line_end) (cond (leb (least_numbers name) k) over dead) dead)
 
--- By its first letter, one of o, p, s, r, m and c, a name is known.
-abbrev pub begins : ℕ → State
-begins b =
-    cond (eqb b 111) (spelling (codes "pen") Open)
-    (cond (eqb b 112) (spelling (codes "ut") Put)
-    (cond (eqb b 115) (spelling (codes "trike") Strike)
-    (cond (eqb b 114) (spelling (codes "ead") Read)
-    (cond (eqb b 109) (spelling (codes "easure") Measure)
-    (cond (eqb b 99) (spelling (codes "lose") Close) dead)))))
-
 abbrev pub step : State → ℕ → State
-step before b = begins b
-step (spells c letters name) b = cond (eqb b c) (spelling letters name) dead
 step (after name k zero) b = sign name k b
 step (after name k (suc room)) b = cond (digit b) (after name k room) (sign name k b)
 step (wants name k) b = cond (digit b) (after name (suc k) 3) dead

@@ -60,6 +60,6 @@ module _ (f : Arithmetic) where
     where
       go : (v : Value) → line_unless v n (first_without f (suc n) es None) ≡ None
           → (first_without f (suc n) es None ≡ None → moduli_codes f (es ++ rest) ≡ Some (all_codes es ++ codes)) → codes_after v (moduli_codes f (es ++ rest)) ≡ Some ((codes_in v ++ all_codes es) ++ codes)
-      go None h k = let z : ◌≡◌ {A = ℕ} 0 1 = cc in absurd (omega arith)
+      go None h k = cc
       go (Some p) h k =
           ap (codes_after (Some p)) (k h) ∙ ap (λ x. Some x) (sym (append_assoc p (all_codes es) codes))

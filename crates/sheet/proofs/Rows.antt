@@ -1,13 +1,15 @@
 -- A count and that many lines, read one line after the other.
-use Rattle.std.proofs.Common.{◌≡◌, ℕ, zero, suc, ◌≤◌, List, [], ◌∷◌, ◌++◌, length, sym, refl, ap, subst, append_assoc, append-nil, arith}
+use Rattle.std.proofs.Common.{◌≡◌, ℕ, zero, suc, ◌+◌, ◌-◌, ◌<◌, ◌≤◌, List, [], ◌∷◌, ◌++◌, length, sym, refl, ap, ◌∙◌, subst, append_assoc, append-nil, arith, lit≤}
 use Rattle.std.proofs.lemmas.List.Edits.{between_none}
 use Rattle.std.specs.List.{between}
+use Rattle.expression.specs.Bytes.{first_digit, line_end}
 use Rattle.expression.specs.Texts.{Got, Lost}
 use Rattle.sheet.specs.Grammar.{IsCount, IsSection, Lines, no_lines, one_more}
 use Rattle.sheet.specs.Parts.{AnyCount}
 use Rattle.sheet.specs.Sequences.{After, Any, Rest, Times}
-use Rattle.sheet.proofs.Chains.{Alone, alone_times, got_lost, join, lost_first, lost_like, some_times, told_after}
-use Rattle.sheet.proofs.Decimals.{told_count}
+use Rattle.sheet.proofs.Between.{part_join}
+use Rattle.sheet.proofs.Chains.{Alone, Told, got_like, got_lost, lost_first, lost_like, rest_lost, rest_more, some_times}
+use Rattle.sheet.proofs.Decimals.{from_one, told_count}
 
 module _ {X : Type 0} (L : List ℕ → X → Type 0) where
   times_from : {x : List ℕ} {items : List X} → Lines L x items → Times (Any L) (length items) x
@@ -32,34 +34,8 @@ module _ {X : Type 0} (L : List ℕ → X → Type 0) where
   lines_more s i j k items v g h = record {
     more = omega (arith, g.more, h.more);
     within = h.within;
-    is = subst (λ y. Lines L y (items ++ v ∷ [])) (sym (join s i j k g.more h.more)) (push g.is h.is);
+    is = subst (λ y. Lines L y (items ++ v ∷ [])) (sym (part_join s i j k g.more h.more)) (push g.is h.is);
   }
-
-  module _ (least most : ℕ) (few : most ≤ 99) (one : Alone (Any L)) where
-    abbrev Counts : ℕ → List ℕ → Type 0
-    Counts n x = IsCount least most x n
-
-    to_after : (x : List ℕ) → Any (IsSection least most L) x → After Counts (Times (Any L)) x
-    to_after x (items, h) = (length items, (h.count_line, (h.lines, h.counted, times_from h.written, h.is)))
-
-    from_after : (x : List ℕ) → After Counts (Times (Any L)) x → Any (IsSection least most L) x
-    from_after x (n, (a, (b, c, t, e))) =
-        let (items, ls, k) = times_to n b t in
-        (items, record { count_line = a; lines = b; counted = subst (IsCount least most a) (sym k) c; written = ls; is = e })
-
-    pub alone_section : Alone (Any (IsSection least most L))
-    alone_section _ _ x y a b p q e =
-        told_after {X = ℕ} Counts (Times (Any L)) (told_count least most few) (λ n. alone_times (Any L) one n) tt tt x y a b (to_after x p) (to_after a q) e
-
-    pub section_begins : (s : List ℕ) (i j n : ℕ) → Got (Counts n) s i j → Rest (Any (IsSection least most L)) (Times (Any L) n) s i j
-    section_begins s i j n g p h =
-        lost_like (After Counts (Times (Any L))) (Any (IsSection least most L)) s i p from_after to_after
-        (got_lost {X = ℕ} Counts (Times (Any L)) (told_count least most few) s n i j p g h)
-
-    pub count_lost : (x : List ℕ) → Any L x → (s : List ℕ) (i p : ℕ) → Lost (AnyCount least most) s i p → Lost (Any (IsSection least most L)) s i p
-    count_lost x some s i p h =
-        lost_like (After Counts (Times (Any L))) (Any (IsSection least most L)) s i p from_after to_after
-        (lost_first {X = ℕ} Counts (Times (Any L)) (told_count least most few) s (λ n. some_times (Any L) x some n) i p h)
 
   pub section_got : (least most : ℕ) (s : List ℕ) (i j k n : ℕ) (items : List X) → Got (λ x. IsCount least most x n) s i j → Got (λ x. Lines L x items) s j k
       → length items ≡ n → Got (λ x. IsSection least most L x items) s i k
@@ -71,6 +47,93 @@ module _ {X : Type 0} (L : List ℕ → X → Type 0) where
       lines = between j k s;
       counted = subst (IsCount least most (between i j s)) (sym e) g.is;
       written = h.is;
-      is = join s i j k g.more h.more;
+      is = part_join s i j k g.more h.more;
     };
   }
+
+-- A kind of sections: its counts are written with two digits at most, what its lines hold is told by how they begin, and there is one
+-- such line.
+pub record SectionKind {X : Type 0} (L : List ℕ → X → Type 0) (least most : ℕ) : Type 0 where
+  pub few : most ≤ 99
+  pub told : Told (λ v x. L x v)
+  pub line : List ℕ
+  pub some : Any L line
+
+one_less : (n c : ℕ) → c < n → n - c ≡ suc (n - (c + 1))
+one_less n c h = omega arith
+
+module _ {X : Type 0} {L : List ℕ → X → Type 0} {least most : ℕ} (k : SectionKind L least most) where
+  abbrev Counts : ℕ → List ℕ → Type 0
+  Counts n x = IsCount least most x n
+
+  told_counts : Told Counts
+  told_counts = told_count least most k.few
+
+  told_rows : {x y a b : List ℕ} {us ws : List X} → Lines L x us → Lines L a ws → x ++ y ≡ a ++ b → length us ≡ length ws → (us ≡ ws) × (x ≡ a) × (y ≡ b)
+  told_rows no_lines no_lines e n = (refl, refl, e)
+  told_rows no_lines (one_more h more) e n = absurd (omega arith)
+  told_rows (one_more h more) no_lines e n = absurd (omega arith)
+  told_rows {y = y} {b = b} (one_more {line = l} {rest = r} {x = u} {xs = us} h more) (one_more {line = m} {rest = q} {x = w} {xs = ws} g rest) e n =
+      let (p, s, t) = k.told u w l (r ++ y) m (q ++ b) h g (sym (append_assoc l r y) ∙ (e ∙ append_assoc m q b)) in
+      let (o, z, end) = told_rows more rest t (omega arith) in
+      (cc, cc, end)
+
+  pub told_section : Told (λ items x. IsSection least most L x items)
+  told_section us ws x y a b h g e =
+      let split : h.count_line ++ (h.lines ++ y) ≡ g.count_line ++ (g.lines ++ b) =
+      sym (ap (λ u. u ++ y) h.is ∙ append_assoc h.count_line h.lines y) ∙ (e ∙ (ap (λ u. u ++ b) g.is ∙ append_assoc g.count_line g.lines b)) in
+      let (n, p, q) = told_counts (length us) (length ws) h.count_line (h.lines ++ y) g.count_line (g.lines ++ b) h.counted g.counted split in
+      let (items, lines, rest) = told_rows h.written g.written q n in
+      (items, h.is ∙ (ap (λ u. u ++ h.lines) p ∙ (ap (λ u. g.count_line ++ u) lines ∙ sym g.is)), rest)
+
+  pub alone_section : Alone (Any (IsSection least most L))
+  alone_section _ _ x y a b (us, h) (ws, g) e = let (_, p, q) = told_section us ws x y a b h g e in (refl, p, q)
+
+  apart : Alone (Any L)
+  apart _ _ x y a b (v, h) (w, g) e = let (_, p, q) = k.told v w x y a b h g e in (refl, p, q)
+
+  to_after : (x : List ℕ) → Any (IsSection least most L) x → After Counts (Times (Any L)) x
+  to_after x (items, h) = (length items, (h.count_line, (h.lines, h.counted, times_from L h.written, h.is)))
+
+  from_after : (x : List ℕ) → After Counts (Times (Any L)) x → Any (IsSection least most L) x
+  from_after x (n, (a, (b, c, t, e))) =
+      let (items, ls, m) = times_to L n b t in
+      (items, record { count_line = a; lines = b; counted = subst (IsCount least most a) (sym m) c; written = ls; is = e })
+
+  pub some_section : least ≤ 1 → 1 ≤ most → (text : List ℕ) × Any (IsSection least most L) text
+  some_section low high = (
+    _,
+    (
+      k.some.0 ∷ [],
+      record {
+        count_line = (first_digit + 1) ∷ line_end ∷ [];
+        lines = k.line ++ [];
+        counted = record { low = low; high = high; is = from_one 1 (lit≤ tt) };
+        written = one_more k.some.1 no_lines;
+        is = refl;
+      },
+    ),
+  )
+
+  module _ (s : List ℕ) (i : ℕ) where
+    pub count_lost : (p : ℕ) → Lost (AnyCount least most) s i p → Lost (Any (IsSection least most L)) s i p
+    count_lost p h =
+        lost_like (After Counts (Times (Any L))) (Any (IsSection least most L)) s i p from_after to_after
+        (lost_first {X = ℕ} Counts (Times (Any L)) told_counts s (λ n. some_times (Any L) k.line k.some n) i p h)
+
+    -- After the count all lines are left.
+    pub section_begins : (j n : ℕ) → Got (Counts n) s i j → Rest (Any (IsSection least most L)) (Times (Any L) (n - 0)) s i j
+    section_begins j n g p h =
+        let all : n - 0 ≡ n = omega arith in
+        lost_like (After Counts (Times (Any L))) (Any (IsSection least most L)) s i p from_after to_after
+        (got_lost {X = ℕ} Counts (Times (Any L)) told_counts s n i j p g (subst (λ m. Lost (Times (Any L) m) s j p) all h))
+
+    module _ (j n c : ℕ) (lt : c < n) (rest : Rest (Any (IsSection least most L)) (Times (Any L) (n - c)) s i j) where
+      -- One line more fails, or is read.
+      pub line_lost : (p : ℕ) → Lost (Any L) s j p → Lost (Any (IsSection least most L)) s i p
+      line_lost p h = rest_lost (Any (IsSection least most L)) (Any L) apart s i j (n - c) (n - (c + 1)) (one_less n c lt) rest k.line k.some p h
+
+      pub line_read : (v : X) (end : ℕ) → Got (λ x. L x v) s j end → Rest (Any (IsSection least most L)) (Times (Any L) (n - (c + 1))) s i end
+      line_read v end g =
+          rest_more (Any (IsSection least most L)) (Any L) apart s i j (n - c) (n - (c + 1)) (one_less n c lt) rest end
+          (got_like (λ x. L x v) (Any L) s j end (λ x h. (v, h)) g)

@@ -1,18 +1,17 @@
 -- The machine goes over every line with a call to the end.
-use Rattle.std.proofs.Common.{◌≡◌, ℕ, zero, suc, ◌+◌, ◌-◌, ◌<◌, ◌≤◌, true, false, ltb, leb, List, [], ◌∷◌, ◌++◌, length, get_or, sym, refl, ap, ◌∙◌, subst, arith, lit≤, length-append}
+use Rattle.std.proofs.Common.{◌≡◌, ℕ, zero, suc, ◌+◌, ◌-◌, ◌<◌, ◌≤◌, true, false, ltb, leb, List, [], ◌∷◌, ◌++◌, length, get_or, sym, refl, ap, ◌∙◌, subst, arith, length-append}
 use Rattle.std.proofs.lemmas.List.Edits.{between_more, between_none}
 use Rattle.std.proofs.lemmas.Bool.Decides.{nat_tests}
 use Rattle.std.specs.List.{between, AllByRecursion}
 use Rattle.expression.specs.Bytes.{Digit, line_end}
 use Rattle.expression.specs.Texts.{Lost}
-use Rattle.sheet.specs.CallLines.{AnyCallLine}
-use Rattle.sheet.specs.CallNames.{least_numbers, most_numbers, word}
+use Rattle.sheet.specs.CallNames.{least_numbers, most_numbers}
 use Rattle.sheet.specs.CallNumbers.{NumbersAt, none_at, one_more_at}
-use Rattle.sheet.specs.Grammar.{IsCallNumber, Numbers, blank_byte, close_line, measure_line, no_numbers, number_more, open_line, put_line, read_line, strike_line}
+use Rattle.sheet.specs.Grammar.{IsCallNumber, Numbers, blank_byte, no_numbers, number_more}
 use Rattle.sheet.specs.declared.call_names.CallName.{CallName}
-use Rattle.sheet.specs.declared.call_names.CallName.TheVariants.{Close, Measure, Open, Put, Read, Strike}
 use Rattle.sheet.proofs.Between.{part_join}
-use Rattle.sheet.proofs.Machine.{State, after, before, dead, digit, over, run, spells, step, wants}
+use Rattle.sheet.proofs.CallParts.{AnyTail, says_counts}
+use Rattle.sheet.proofs.Machine.{State, after, dead, digit, over, run, step, wants}
 use Rattle.sheet.proofs.CallRows.{row_length}
 
 pub run_++ : (q : State) (x y : List ℕ) → run q (x ++ y) ≡ run (run q x) y
@@ -70,13 +69,10 @@ line_through name {x} {ns} numbers low high =
     let (left, e) = through name 0 0 numbers (omega arith) in
     run_++ (after name 0 0) x (line_end ∷ []) ∙ (ap (λ q. step q line_end) e ∙ run_end name (0 + length ns) left (omega arith))
 
-pub line_run : (x : List ℕ) → AnyCallLine x → run before x ≡ over
-line_run x (r, open_line numbers) = line_through Open numbers (lit≤ tt) (lit≤ tt)
-line_run x (r, put_line numbers few) = line_through Put numbers (omega arith) (omega arith)
-line_run x (r, strike_line numbers) = line_through Strike numbers (lit≤ tt) (lit≤ tt)
-line_run x (r, read_line numbers) = line_through Read numbers (lit≤ tt) (lit≤ tt)
-line_run x (r, measure_line numbers few) = line_through Measure numbers (omega arith) (omega arith)
-line_run x (r, close_line numbers) = line_through Close numbers (lit≤ tt) (lit≤ tt)
+pub tail_run : (name : CallName) (x : List ℕ) → AnyTail name x → run (after name 0 0) x ≡ over
+tail_run name x (r, t) =
+    let (low, high) = says_counts t.says in
+    ap (run (after name 0 0)) t.is ∙ line_through name t.numbers low high
 
 -- Through the numbers that were read: the last of them does not go on.
 pub walked : (name : CallName) {s : List ℕ} {i j : ℕ} {ns : List ℕ} → NumbersAt s i j ns → length ns ≤ most_numbers name
@@ -97,36 +93,25 @@ walked name {s} {i} (one_more_at {j = j} {k = k} {n = n} {ns = ns} row number) f
       λ lt. number.text.stops (omega arith),
     )
 
--- The name stands before the numbers.
-pub word_run : (name : CallName) (x : List ℕ) → run before (word name ++ x) ≡ run (after name 0 0) x
-word_run Open x = refl
-word_run Put x = refl
-word_run Strike x = refl
-word_run Read x = refl
-word_run Measure x = refl
-word_run Close x = refl
-
 abbrev pub IsOver : State → Type 0
-IsOver before = ⊥
-IsOver (spells b letters name) = ⊥
 IsOver (after name k room) = ⊥
 IsOver (wants name k) = ⊥
 IsOver over = Unit {0}
 IsOver dead = ⊥
 
 -- A line is lost where it can go on, is not over, and the next byte stops the machine.
-pub lost_by_run : (s : List ℕ) (i p : ℕ) (q : State) → i ≤ p → p ≤ length s → run before (between i p s) ≡ q → (IsOver q → ⊥)
-    → (p < length s → step q (get_or s p 0) ≡ dead) → (t : List ℕ) → AnyCallLine (between i p s ++ t) → Lost AnyCallLine s i p
-lost_by_run s i p q more within ran live stops t line = record {
+pub lost_by_run : (name : CallName) (s : List ℕ) (i p : ℕ) (q : State) → i ≤ p → p ≤ length s → run (after name 0 0) (between i p s) ≡ q → (IsOver q → ⊥)
+    → (p < length s → step q (get_or s p 0) ≡ dead) → (t : List ℕ) → AnyTail name (between i p s ++ t) → Lost (AnyTail name) s i p
+lost_by_run name s i p q more within ran live stops t tail = record {
   more = more;
   within = within;
-  begins = (t, line);
-  short = λ l. live (subst IsOver (sym (line_run (between i p s) l) ∙ ran) tt);
-  ends = λ h u l. subst IsOver (sym (line_run (between i (p + 1) s ++ u) l) ∙ killed h u) tt;
+  begins = (t, tail);
+  short = λ l. live (subst IsOver (sym (tail_run name (between i p s) l) ∙ ran) tt);
+  ends = λ h u l. subst IsOver (sym (tail_run name (between i (p + 1) s ++ u) l) ∙ killed h u) tt;
 }
   where
-    killed : p < length s → (u : List ℕ) → run before (between i (p + 1) s ++ u) ≡ dead
+    killed : p < length s → (u : List ℕ) → run (after name 0 0) (between i (p + 1) s ++ u) ≡ dead
     killed h u =
-        run_++ before (between i (p + 1) s) u
-        ∙ (ap (λ x. run (run before x) u) (between_more s i p 0 more h)
-        ∙ (ap (λ r. run r u) (run_++ before (between i p s) (get_or s p 0 ∷ []) ∙ (ap (λ r. step r (get_or s p 0)) ran ∙ stops h)) ∙ run_dead u))
+        run_++ (after name 0 0) (between i (p + 1) s) u
+        ∙ (ap (λ x. run (run (after name 0 0) x) u) (between_more s i p 0 more h)
+        ∙ (ap (λ r. run r u) (run_++ (after name 0 0) (between i p s) (get_or s p 0 ∷ []) ∙ (ap (λ r. step r (get_or s p 0)) ran ∙ stops h)) ∙ run_dead u))

@@ -1,28 +1,29 @@
 -- The whole sheet: four sections, and nothing after them.
-use Rattle.std.proofs.Common.{◌≡◌, ℕ, suc, ◌+◌, ◌-◌, ◌<◌, ◌≤◌, ◌⊎◌, List, [], ◌∷◌, ◌++◌, length, get_or, take, drop, codes, sym, refl, ap, ◌∙◌, subst, inl, inr, append_assoc, append-nil, arith, lit≤}
-use Rattle.std.proofs.lemmas.List.{drop_more, take_all}
+use Rattle.std.proofs.Common.{◌≡◌, ℕ, ◌+◌, ◌<◌, ◌≤◌, ◌⊎◌, List, [], ◌∷◌, ◌++◌, length, get_or, take, sym, refl, ap, ◌∙◌, subst, inl, inr, append_assoc, append-nil, arith, lit≤}
+use Rattle.std.proofs.lemmas.List.{take_all}
+use Rattle.std.proofs.lemmas.Slice.{between_from_start}
 use Rattle.std.specs.List.{between}
 use Rattle.expression.specs.Grammar.{IsModulusLine}
 use Rattle.expression.specs.Texts.{Got, Lost}
 use Rattle.expression.specs.Values.{Expression}
 use Rattle.expression.specs.declared.names.FieldName.{FieldName}
 use Rattle.rack.specs.Ledger.{Request}
-use Rattle.sheet.specs.Grammar.{IsCallLine, IsFieldLine, IsSection, IsSheet, no_lines, one_more}
+use Rattle.sheet.specs.Grammar.{IsCallLine, IsFieldLine, IsSection, IsSheet}
 use Rattle.sheet.specs.Limits.{most_calls, most_moduli}
 use Rattle.sheet.specs.Refusals.{StopsAt}
 use Rattle.sheet.specs.Sections.{AnyCalls, AnyField, AnyModuli}
 use Rattle.sheet.specs.Sequences.{Any, Then}
-use Rattle.sheet.proofs.Chains.{Alone, dies, got_lost, join, lost_first, lost_like, told_after}
+use Rattle.sheet.proofs.Between.{part_first, part_join}
+use Rattle.sheet.proofs.Chains.{Alone, dies, got_lost, lost_first, lost_like, told_after}
 use Rattle.sheet.proofs.FieldSections.{alone_fields}
-use Rattle.sheet.proofs.LineKinds.{alone_call, alone_modulus, some_modulus}
-use Rattle.sheet.proofs.Decimals.{from_one}
-use Rattle.sheet.proofs.Rows.{alone_section}
+use Rattle.sheet.proofs.LineKinds.{call_kind, modulus_kind}
+use Rattle.sheet.proofs.Rows.{alone_section, some_section}
 
-pub alone_moduli : Alone AnyModuli
-alone_moduli = alone_section IsModulusLine 1 most_moduli (lit≤ tt) alone_modulus
+alone_moduli : Alone AnyModuli
+alone_moduli = alone_section modulus_kind
 
-pub alone_calls : Alone AnyCalls
-alone_calls = alone_section IsCallLine 0 most_calls (lit≤ tt) alone_call
+alone_calls : Alone AnyCalls
+alone_calls = alone_section call_kind
 
 -- The sections from each on.
 abbrev FromSpare : List ℕ → Type 0
@@ -84,26 +85,17 @@ alone_sheet _ _ x y a b p q e =
     (to_sections x p) (to_sections a q) e
 
 -- Sections that could follow.
-some_moduli : AnyModuli (codes "1\nz\n")
-some_moduli = (
-  some_modulus.0 ∷ [],
-  record {
-    count_line = codes "1\n";
-    lines = codes "z\n";
-    counted = record { low = lit≤ tt; high = lit≤ tt; is = from_one 1 (lit≤ tt) };
-    written = one_more some_modulus.1 no_lines;
-    is = refl;
-  },
-)
+some_moduli : (text : List ℕ) × AnyModuli text
+some_moduli = some_section modulus_kind (lit≤ tt) (lit≤ tt)
 
-some_calls : AnyCalls (codes "0\n")
-some_calls = ([], record { count_line = codes "0\n"; lines = []; counted = record { low = lit≤ tt; high = lit≤ tt; is = from_one 0 (lit≤ tt) }; written = no_lines; is = refl })
+some_calls : (text : List ℕ) × AnyCalls text
+some_calls = some_section call_kind (lit≤ tt) (lit≤ tt)
 
-some_spare : (rest : List ℕ) × FromSpare rest
-some_spare = (codes "1\nz\n" ++ codes "0\n", (tt, (codes "1\nz\n", (codes "0\n", some_moduli, some_calls, refl))))
+some_spare : (text : List ℕ) × FromSpare text
+some_spare = (some_moduli.0 ++ some_calls.0, (tt, (some_moduli.0, (some_calls.0, some_moduli.1, some_calls.1, refl))))
 
-some_carrying : (rest : List ℕ) × FromCarrying rest
-some_carrying = (codes "1\nz\n" ++ some_spare.0, (tt, (codes "1\nz\n", (some_spare.0, some_moduli, some_spare.1, refl))))
+some_carrying : (text : List ℕ) × FromCarrying text
+some_carrying = (some_moduli.0 ++ some_spare.0, (tt, (some_moduli.0, (some_spare.0, some_moduli.1, some_spare.1, refl))))
 
 module _ (L M : List ℕ → Type 0) (one : Alone L) (s : List ℕ) where
   first : ((rest : List ℕ) × M rest) → (i p : ℕ) → Lost L s i p → Lost (Then L M) s i p
@@ -126,7 +118,7 @@ module _ (s : List ℕ) (p : ℕ) where
   pub spare_lost : (i j : ℕ) → Got AnyField s 0 i → Got AnyModuli s i j → Lost AnyModuli s j p → Lost (Any IsSheet) s 0 p
   spare_lost i j f g h =
       lost_sheet (later AnyField FromCarrying alone_fields s 0 i p f (later AnyModuli FromSpare alone_moduli s i j p g
-      (first AnyModuli AnyCalls alone_moduli s (codes "0\n", some_calls) j p h)))
+      (first AnyModuli AnyCalls alone_moduli s some_calls j p h)))
 
   pub calls_lost : (i j k : ℕ) → Got AnyField s 0 i → Got AnyModuli s i j → Got AnyModuli s j k → Lost AnyCalls s k p → Lost (Any IsSheet) s 0 p
   calls_lost i j k f g h l =
@@ -148,37 +140,27 @@ sheet_got s i j k l name cs ss qs f g h m = record {
     carrying_section = g.is;
     spare_section = h.is;
     calls_section = m.is;
-    is = join s 0 i l f.more (omega (arith, g.more, h.more, m.more))
-        ∙ ap (λ u. between 0 i s ++ u) (join s i j l g.more (omega (arith, h.more, m.more)) ∙ ap (λ u. between i j s ++ u) (join s j k l h.more m.more));
+    is = part_join s 0 i l f.more (omega (arith, g.more, h.more, m.more))
+        ∙ ap (λ u. between 0 i s ++ u) (part_join s i j l g.more (omega (arith, h.more, m.more)) ∙ ap (λ u. between i j s ++ u) (part_join s j k l h.more m.more));
   };
 }
-
--- From the start of the sheet on.
-front : (s : List ℕ) (k : ℕ) → between 0 k s ≡ take k s
-front s k = let e : k - 0 ≡ k = omega arith in ap (λ m. take m s) e
 
 all : (s : List ℕ) → take (length s) s ≡ s
 all s = take_all (length s) s (omega arith)
 
-byte : (s : List ℕ) (p k : ℕ) → p < k → k ≤ length s → between p k s ≡ get_or s p 0 ∷ between (p + 1) k s
-byte s p k h w =
-    let lt : p < length s = omega arith in
-    let e : k - p ≡ suc (k - (p + 1)) = omega arith in
-    ap (take (k - p)) (drop_more s p 0 lt) ∙ ap (λ m. take m (get_or s p 0 ∷ drop (p + 1) s)) e
-
 longer : (s : List ℕ) (p k : ℕ) (t : List ℕ) → p < k → k ≤ length s → take k s ++ t ≡ between 0 p s ++ (get_or s p 0 ∷ (between (p + 1) k s ++ t))
 longer s p k t h w =
-    ap (λ x. x ++ t) (sym (front s k) ∙ join s 0 p k (omega arith) (omega arith))
-    ∙ (append_assoc (between 0 p s) (between p k s) t ∙ ap (λ x. between 0 p s ++ (x ++ t)) (byte s p k h w))
+    ap (λ x. x ++ t) (sym (between_from_start s k) ∙ part_join s 0 p k (omega arith) (omega arith))
+    ∙ (append_assoc (between 0 p s) (between p k s) t ∙ ap (λ x. between 0 p s ++ (x ++ t)) (part_first s p k h w))
 
 pub got_whole : (L : List ℕ → Type 0) (s : List ℕ) (j : ℕ) → Got L s 0 j → j ≡ length s → L s
-got_whole L s j g e = subst L (front s j ∙ (ap (λ k. take k s) e ∙ all s)) g.is
+got_whole L s j g e = subst L (between_from_start s j ∙ (ap (λ k. take k s) e ∙ all s)) g.is
 
 pub stops : (s : List ℕ) (p : ℕ) → Lost (Any IsSheet) s 0 p → StopsAt s p
 stops s p h = record {
   no_sheet = λ c l. none (c, l) split;
   within = h.within;
-  viable = (h.begins.0, subst (λ x. Any IsSheet (x ++ h.begins.0)) (front s p) h.begins.1);
+  viable = (h.begins.0, subst (λ x. Any IsSheet (x ++ h.begins.0)) (between_from_start s p) h.begins.1);
   longest = λ k lt w (t, l). past k lt w t l;
 }
   where
@@ -189,7 +171,7 @@ stops s p h = record {
     past k lt w t l = dies (Any IsSheet) s 0 p h (omega arith) (between (p + 1) k s ++ t) (subst (Any IsSheet) (longer s p k t lt w) l)
 
     none : Any IsSheet s → (p ≡ length s) ⊎ (p < length s) → ⊥
-    none l (inl e) = h.short (subst (Any IsSheet) (sym (front s p ∙ (ap (λ k. take k s) e ∙ all s))) l)
+    none l (inl e) = h.short (subst (Any IsSheet) (sym (between_from_start s p ∙ (ap (λ k. take k s) e ∙ all s))) l)
     none l (inr lt) = past (length s) lt (omega arith) [] (subst (Any IsSheet) (sym (append-nil (take (length s) s) ∙ all s)) l)
 
 -- Bytes after the last section.
@@ -197,7 +179,7 @@ pub stops_after : (s : List ℕ) (j : ℕ) → Got (Any IsSheet) s 0 j → ¬ (j
 stops_after s j g ne = record {
   no_sheet = λ c l. past (length s) (omega (arith, g.within)) (omega arith) [] (subst (Any IsSheet) (sym (append-nil (take (length s) s) ∙ all s)) (c, l));
   within = g.within;
-  viable = ([], subst (Any IsSheet) (front s j ∙ sym (append-nil (take j s))) g.is);
+  viable = ([], subst (Any IsSheet) (between_from_start s j ∙ sym (append-nil (take j s))) g.is);
   longest = λ k lt w (t, l). past k lt w t l;
 }
   where

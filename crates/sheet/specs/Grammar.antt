@@ -1,12 +1,11 @@
 -- How a sheet is written: lines that each end in byte 10, in four sections, each after its count on a line of its own: the field, the
 -- carrying moduli, the spare moduli and the calls. Nothing follows the last section.
 use Rattle.std.specs.Prelude.{◌≡◌, ℕ, ◌≤◌, List, [], ◌∷◌, ◌++◌, length, codes, decimal}
-use Rattle.std.specs.List.{AllByRecursion}
-use Rattle.expression.specs.Bytes.{Digit, line_end}
-use Rattle.expression.specs.Grammar.{IsModulusLine, numeral}
+use Rattle.expression.specs.Bytes.{line_end}
+use Rattle.expression.specs.Fields.{field_word}
+use Rattle.expression.specs.Grammar.{IsModulusLine, IsNumeral, numeral}
 use Rattle.expression.specs.Values.{Expression}
 use Rattle.expression.specs.declared.names.FieldName.{FieldName}
-use Rattle.expression.specs.declared.names.FieldName.TheVariants.{Bits, Bytes, Clock}
 use Rattle.rack.specs.Ledger.{Request, closes, measures, opens, puts, reads, strikes}
 use Rattle.sheet.specs.Limits.{least_moduli, most_call_digits, most_calls, most_measure_codes, most_moduli, most_put_codes}
 
@@ -36,12 +35,7 @@ pub record IsSection {X : Type 0} (least most : ℕ) (L : List ℕ → X → Typ
   pub written : Lines L lines items
   pub is : text ≡ count_line ++ lines
 
--- The names of the fields.
-abbrev pub field_word : FieldName → List ℕ
-field_word Bits = codes "bits"
-field_word Bytes = codes "bytes"
-field_word Clock = codes "clock"
-
+-- A line that names a field.
 abbrev pub IsFieldLine : List ℕ → FieldName → Type 0
 IsFieldLine line name = line ≡ field_word name ++ line_end ∷ []
 
@@ -49,10 +43,8 @@ abbrev pub blank_byte : ℕ
 blank_byte = 32
 
 -- A number of a call: one to four digits.
-pub record IsCallNumber (x : List ℕ) : Type 0 where
-  pub some : 1 ≤ length x
-  pub few : length x ≤ most_call_digits
-  pub digits : AllByRecursion Digit x
+abbrev pub IsCallNumber : List ℕ → Type 0
+IsCallNumber x = IsNumeral most_call_digits x
 
 -- The numbers of a call, each after exactly one blank.
 pub data Numbers : List ℕ → List ℕ → Type 0 where

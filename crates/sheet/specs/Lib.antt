@@ -10,3 +10,4 @@ pub mod Parts
 pub mod Refusals
 pub mod Sections
 pub mod Sequences
+pub mod Tables

@@ -1,22 +1,23 @@
 -- What the readers of sections answer.
-use Rattle.std.specs.Prelude.{◌≡◌, ℕ, List, [], ◌∷◌, ◌++◌, map, length, Some, None, Ok, Err, vec_items, Result}
+use Rattle.std.specs.Prelude.{◌≡◌, ℕ, List, [], ◌∷◌, ◌++◌, map, length, Some, None, MatchResult, vec_items, Result}
 use Rattle.std.specs.Option.{option_or}
+use Rattle.std.specs.Global.{Vec}
 use Rattle.std.specs.List.{flat_map}
 use Rattle.algebra.specs.Field.{Arithmetic}
 use Rattle.expression.specs.Grammar.{IsModulusLine}
 use Rattle.expression.specs.Texts.{Got, Lost}
 use Rattle.expression.specs.Values.{Expression, Value, value}
+use Rattle.expression.specs.declared.parsed.Parsed.{Parsed}
+use Rattle.rack.specs.declared.call.Call.{Call}
 use Rattle.expression.specs.declared.names.FieldName.{FieldName}
 use Rattle.rack.specs.Racks.{given_by}
+use Rattle.sheet.specs.Faults.{Failed}
 use Rattle.sheet.specs.Grammar.{IsCallLine, IsFieldLine, IsSection}
 use Rattle.sheet.specs.Limits.{least_moduli, most_calls, most_moduli}
 use Rattle.sheet.specs.Refusals.{first_without, line_unless}
 use Rattle.sheet.specs.Sequences.{Any}
-use Rattle.sheet.specs.declared.counts.Counted.{Counted}
 use Rattle.sheet.specs.declared.lines.LineFault.{LineFault}
-use Rattle.sheet.specs.declared.lines.LineFault.TheVariants.{NoRoom, Stops}
 use Rattle.sheet.specs.declared.moduli.Moduli.{Moduli}
-use Rattle.sheet.specs.declared.sections.Called.{Called}
 
 -- Some section of each kind.
 abbrev pub AnyField : List ℕ → Type 0
@@ -43,22 +44,15 @@ pub record Noted (f : Arithmetic) (line : ℕ) (expressions : List Expression) (
   pub codes_are : vec_items after.codes ≡ vec_items before.codes ++ flat_map (λ e. codes_in (value f e)) expressions
   pub bad_is : after.bad ≡ option_or before.bad (first_without f line expressions None)
 
-pub record ModuliRead (f : Arithmetic) (s : List ℕ) (from line : ℕ) (before after : Moduli) (counted : Counted) : Type 0 where
+pub record ModuliRead (f : Arithmetic) (s : List ℕ) (from line : ℕ) (before after : Moduli) (counted : Parsed ℕ) : Type 0 where
   pub expressions : List Expression
   pub section : Got (λ x. IsSection least_moduli most_moduli IsModulusLine x expressions) s from counted.end
-  pub count_is : counted.count ≡ length expressions
+  pub count_is : counted.value ≡ length expressions
   pub noted : Noted f line expressions before after
 
--- Why there are no moduli: the first place where no such section goes on, or want of memory.
-abbrev pub ModuliLost : List ℕ → ℕ → LineFault → Type 0
-ModuliLost s from (Stops p) = Lost AnyModuli s from p
-ModuliLost s from NoRoom = Unit {0}
+abbrev pub ModuliTold : Arithmetic → List ℕ → ℕ → ℕ → Moduli → Moduli → Result (Parsed ℕ) LineFault → Type 0
+ModuliTold f s from line before after r = MatchResult r (ModuliRead f s from line before after) (Failed (Lost AnyModuli s from))
 
-abbrev pub ModuliTold : Arithmetic → List ℕ → ℕ → ℕ → Moduli → Moduli → Result Counted LineFault → Type 0
-ModuliTold f s from line before after (Ok counted) = ModuliRead f s from line before after counted
-ModuliTold f s from line before after (Err fault) = ModuliLost s from fault
-
-abbrev pub CallsTold : List ℕ → ℕ → Result Called LineFault → Type 0
-CallsTold s from (Ok read) = Got (λ x. IsSection 0 most_calls IsCallLine x (map given_by (vec_items read.calls))) s from read.end
-CallsTold s from (Err (Stops p)) = Lost AnyCalls s from p
-CallsTold s from (Err NoRoom) = Unit {0}
+abbrev pub CallsTold : List ℕ → ℕ → Result (Parsed (Vec Call)) LineFault → Type 0
+CallsTold s from r =
+    MatchResult r (λ calls. Got (λ x. IsSection 0 most_calls IsCallLine x (map given_by (vec_items calls.value))) s from calls.end) (Failed (Lost AnyCalls s from))

@@ -24,7 +24,7 @@ impl From<LineFault> for SheetFault {
 
     fn from(cause: LineFault) -> SheetFault {
         match cause {
-            LineFault::Stops(place) => SheetFault::NotASheet(place),
+            LineFault::Stops(stop) => SheetFault::NotASheet(stop.place),
             LineFault::NoRoom => SheetFault::NoMemory,
         }
     }

@@ -1,6 +1,7 @@
 //! The sheet, on which a laboratory writes its plan and its calls: exactly the lawful ones are read.
 #![tactic(auto)]
 
+mod bytes;
 mod call_lines;
 mod call_names;
 mod counts;
@@ -14,7 +15,7 @@ mod reading;
 mod sections;
 mod sheets;
 mod theorems;
-mod tokens;
+mod words;
 
 pub use faults::SheetFault;
 pub use limits::LONGEST_SHEET;

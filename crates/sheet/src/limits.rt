@@ -1,26 +1,44 @@
-//! The limits of a sheet, and the bytes that its lines are made of.
+//! The limits of a sheet.
+ghost use Rattle.std.specs.Prelude.{◌≤◌};
 
 /// A longer sheet is refused, whatever it holds.
 pub const LONGEST_SHEET: usize = 4096;
 
+/// The counts that a section may begin with. A least count of 0 or 1 and a highest of at most two digits are what counts are read by.
+#[derive(Clone, Copy)]
+pub(crate) struct Counts {
+    pub(crate) least: usize,
+    pub(crate) most: usize,
+    ghost low: { least ≤ 1 },
+    ghost some: { 1 ≤ most },
+    ghost few: { most ≤ 99 },
+}
+
 /// Every sheet names one field.
-pub(crate) const FIELDS: usize = 1;
+pub(crate) const FIELDS: Counts = Counts { least: 1, most: 1 };
 
 /// The counts of carrying and of spare moduli.
-pub(crate) const LEAST_MODULI: usize = 1;
+pub(crate) const MODULI: Counts = Counts {
+    least: LEAST_MODULI,
+    most: MOST_MODULI,
+};
 
-pub(crate) const MOST_MODULI: usize = 23;
+const LEAST_MODULI: usize = 1;
+
+const MOST_MODULI: usize = 23;
 
 /// The counts of calls.
-pub(crate) const LEAST_CALLS: usize = 0;
+pub(crate) const CALLS: Counts = Counts {
+    least: LEAST_CALLS,
+    most: MOST_CALLS,
+};
 
-pub(crate) const MOST_CALLS: usize = 99;
+const LEAST_CALLS: usize = 0;
+
+const MOST_CALLS: usize = 99;
 
 /// The line of the first carrying modulus: before it stand the count and the name of the field, and the count of carrying moduli.
 pub(crate) const FIRST_MODULUS_LINE: usize = 3;
-
-/// The byte that ends each line.
-pub(crate) const LINE_END: u8 = b'\n';
 
 /// A number of a call is written with at most this many digits.
 pub(crate) const MOST_CALL_DIGITS: usize = 4;

@@ -1,29 +1,22 @@
-//! What reading a line answers.
+//! Why a line is not read.
 ghost use Rattle.std.specs.Prelude.{◌≡◌};
 ghost use Rattle.sheet.specs.declared.lines.LineFault.TheVariants.{NoRoom, Stops};
 
-use rack::Call;
+use expression::Stop;
 use std::alloc::{AllocError, AllocFailed};
 
-/// A line with a call that was read, and where it ends.
-#[derive(Drop)]
-pub(crate) struct CallLine {
-    pub(crate) end: usize,
-    pub(crate) call: Call,
-}
-
-/// Why a line was not read: the first place where no such line goes on, or want of memory.
+/// Where a line stops, or want of memory.
 #[derive(Clone, Copy)]
 pub(crate) enum LineFault {
-    Stops(usize),
+    Stops(Stop),
     NoRoom,
 }
 
-impl From<usize> for LineFault {
-    ghost from_gives = { λ place fault. fault ≡ Stops place };
+impl From<Stop> for LineFault {
+    ghost from_gives = { λ stop fault. fault ≡ Stops stop };
 
-    fn from(place: usize) -> LineFault {
-        LineFault::Stops(place)
+    fn from(stop: Stop) -> LineFault {
+        LineFault::Stops(stop)
     }
 }
 

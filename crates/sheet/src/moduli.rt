@@ -25,9 +25,7 @@ impl Moduli {
         match value {
             Some(codes) => self.codes.extend_from_slice(&codes),
             None => {
-                if self.bad.is_none() {
-                    self.bad = Some(line);
-                }
+                self.bad = self.bad.or(Some(line));
                 Ok(())
             }
         }

@@ -8,7 +8,7 @@ use crate::lines::LineFault;
 use crate::moduli::Moduli;
 use crate::sections::{calls_section, field_section, moduli_section};
 use crate::sheets::Sheet;
-use expression::FieldName;
+use expression::{Cursor, FieldName, Parsed};
 use rack::Call;
 use std::alloc::Global;
 
@@ -19,16 +19,16 @@ pub fn read_sheet(heap: Global, bytes: &[u8]) -> Result<Sheet, SheetFault>
     if bytes.len() > LONGEST_SHEET {
         return Err(SheetFault::TooLong);
     }
+    let Parsed { value: draft, end } = read_sections(heap, bytes)?;
+    if end != bytes.len() {
+        return Err(SheetFault::NotASheet(end));
+    }
     let Draft {
-        end,
         field,
         carriers,
         moduli,
         calls,
-    } = read_sections(heap, bytes)?;
-    if end != bytes.len() {
-        return Err(SheetFault::NotASheet(end));
-    }
+    } = draft;
     if let Some(line) = moduli.bad {
         return Err(SheetFault::NoModulus(line));
     }
@@ -43,7 +43,6 @@ pub fn read_sheet(heap: Global, bytes: &[u8]) -> Result<Sheet, SheetFault>
 // What the sections say, before it is known that nothing follows them and that every modulus has a value.
 #[derive(Drop)]
 struct Draft {
-    end: usize,
     field: FieldName,
     carriers: usize,
     moduli: Moduli,
@@ -51,30 +50,40 @@ struct Draft {
 }
 
 // The four sections from the start of the sheet on.
-fn read_sections(heap: Global, bytes: &[u8]) -> Result<Draft, LineFault>
+fn read_sections(heap: Global, bytes: &[u8]) -> Result<Parsed<Draft>, LineFault>
     ensures { DraftTold bytes.now result }
 {
-    let named = field_section(bytes, 0)?;
+    let start = Cursor {
+        sheet: bytes,
+        place: 0,
+    };
+    let field = field_section(start)?;
     let mut moduli = Moduli {
         codes: Vec::new(heap),
         bad: None,
     };
     let carrying = moduli_section(
-        bytes,
-        named.end,
-        named.field,
+        start.at(field.end),
+        field.value,
         FIRST_MODULUS_LINE,
         &mut moduli,
     )?;
     // Between the carrying and the spare moduli stands one line, the count of the latter.
-    let first_spare = FIRST_MODULUS_LINE + carrying.count + 1;
-    let spare = moduli_section(bytes, carrying.end, named.field, first_spare, &mut moduli)?;
-    let called = calls_section(heap, bytes, spare.end)?;
-    Ok(Draft {
-        end: called.end,
-        field: named.field,
-        carriers: carrying.count,
-        moduli,
-        calls: called.calls,
+    let first_spare = FIRST_MODULUS_LINE + carrying.value + 1;
+    let spare = moduli_section(
+        start.at(carrying.end),
+        field.value,
+        first_spare,
+        &mut moduli,
+    )?;
+    let calls = calls_section(heap, start.at(spare.end))?;
+    Ok(Parsed {
+        value: Draft {
+            field: field.value,
+            carriers: carrying.value,
+            moduli,
+            calls: calls.value,
+        },
+        end: calls.end,
     })
 }

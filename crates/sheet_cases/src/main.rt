@@ -5,10 +5,10 @@
 ghost use Rattle.std.specs.Prelude.{◌<◌, IfOk};
 
 use anyhow::anyhow;
-use expression::FieldName;
 use fault::Fault;
 use rack::Call;
 use sheet::{Sheet, read_sheet};
+use std::fmt;
 
 /// A digit of base sixteen.
 fn sixteenth(digit: u8) -> anyhow::Result<u8>
@@ -33,62 +33,79 @@ fn bytes_of(rt: &HostRuntime, line: &str) -> anyhow::Result<Vec<u8>> {
     Ok(bytes)
 }
 
-fn show_numbers(rt: &HostRuntime, numbers: &[u16]) -> anyhow::Result<()> {
-    for number in numbers {
-        print!(rt; " {number}")?;
+/// Numbers, each after a blank.
+#[derive(Clone, Copy)]
+struct Numbers<'a>(&'a [u16]);
+
+impl<'a> fmt::Display for Numbers<'a> {
+    fn fmt<W: fmt::Write>(&self, f: &mut fmt::Formatter<W>) -> fmt::Result {
+        for number in self.0 {
+            write!(f, " {number}")?;
+        }
+        Ok(())
     }
-    Ok(())
 }
 
-fn show_call(rt: &HostRuntime, call: &Call) -> anyhow::Result<()> {
-    match call {
-        Call::Open { channel, slot } => print!(rt; " | open {channel} {slot}")?,
-        Call::Put {
-            channel,
-            slot,
-            position,
-            residue,
-        } => {
-            print!(rt; " | put {channel} {slot} {position}")?;
-            show_numbers(rt, residue.as_slice())?;
+/// A call as a sheet writes it.
+#[derive(Clone, Copy)]
+struct Written<'a>(&'a Call);
+
+impl<'a> fmt::Display for Written<'a> {
+    fn fmt<W: fmt::Write>(&self, f: &mut fmt::Formatter<W>) -> fmt::Result {
+        match self.0 {
+            Call::Open { channel, slot } => write!(f, "open {channel} {slot}"),
+            Call::Put {
+                channel,
+                slot,
+                position,
+                residue,
+            } => {
+                let codes = Numbers(residue.as_slice());
+                write!(f, "put {channel} {slot} {position}{codes}")
+            }
+            Call::Strike {
+                channel,
+                slot,
+                position,
+            } => write!(f, "strike {channel} {slot} {position}"),
+            Call::Read {
+                channel,
+                slot,
+                buffer: _,
+            } => write!(f, "read {channel} {slot}"),
+            Call::Measure {
+                channel,
+                slot,
+                message,
+            } => {
+                let codes = Numbers(message.as_slice());
+                write!(f, "measure {channel} {slot}{codes}")
+            }
+            Call::Close { channel, slot } => write!(f, "close {channel} {slot}"),
         }
-        Call::Strike {
-            channel,
-            slot,
-            position,
-        } => print!(rt; " | strike {channel} {slot} {position}")?,
-        Call::Read {
-            channel,
-            slot,
-            buffer: _,
-        } => print!(rt; " | read {channel} {slot}")?,
-        Call::Measure {
-            channel,
-            slot,
-            message,
-        } => {
-            print!(rt; " | measure {channel} {slot}")?;
-            show_numbers(rt, message.as_slice())?;
-        }
-        Call::Close { channel, slot } => print!(rt; " | close {channel} {slot}")?,
     }
-    Ok(())
 }
 
-fn show_sheet(rt: &HostRuntime, sheet: &Sheet) -> anyhow::Result<()> {
-    let name = match sheet.field {
-        FieldName::Bits => "bits",
-        FieldName::Bytes => "bytes",
-        FieldName::Clock => "clock",
-    };
-    let carriers = sheet.carriers;
-    print!(rt; "ok {name} {carriers}")?;
-    show_numbers(rt, sheet.moduli.as_slice())?;
-    for call in sheet.calls.as_slice() {
-        show_call(rt, call)?;
+/// What a sheet says, on one line.
+#[derive(Clone, Copy)]
+struct Content<'a>(&'a Sheet);
+
+impl<'a> fmt::Display for Content<'a> {
+    fn fmt<W: fmt::Write>(&self, f: &mut fmt::Formatter<W>) -> fmt::Result {
+        let Sheet {
+            field,
+            carriers,
+            moduli,
+            calls,
+        } = self.0;
+        let codes = Numbers(moduli.as_slice());
+        write!(f, "{field} {carriers}{codes}")?;
+        for call in calls {
+            let call = Written(call);
+            write!(f, " | {call}")?;
+        }
+        Ok(())
     }
-    println!(rt; "")?;
-    Ok(())
 }
 
 fn run(rt: &HostRuntime) -> anyhow::Result<()> {
@@ -96,7 +113,7 @@ fn run(rt: &HostRuntime) -> anyhow::Result<()> {
         let line = line?;
         let bytes = bytes_of(rt, line.as_str())?;
         match read_sheet(rt.alloc(), bytes.as_slice()) {
-            Ok(sheet) => show_sheet(rt, &sheet)?,
+            Ok(sheet) => println!(rt; "ok {}", Content(&sheet))?,
             Err(fault) => println!(rt; "{}", fault.ground())?,
         }
     }

@@ -1,11 +1,18 @@
-use Rattle.std.proofs.Common.{◌+◌, max, sym, ap, ◌∙◌, subst}
-use Rattle.expression.specs.Texts.{Lost}
-use Rattle.sheet.specs.Parts.{AnyFieldLine}
-use Rattle.sheet.proofs.Words.{fields_lost}
+use Rattle.std.proofs.Common.{ℕ, List, [], ◌∷◌, ◌++◌, Contains, codes, refl, lit<}
+use Rattle.std.proofs.lemmas.Result.{MatchResult-weaker}
+use Rattle.expression.specs.Bytes.{line_end}
+use Rattle.expression.specs.Fields.{field_word}
+use Rattle.expression.specs.declared.names.FieldName.{FieldName}
+use Rattle.expression.specs.declared.names.FieldName.TheVariants.{Bits, Bytes, Clock}
+use Rattle.sheet.proofs.Tables.{spelled_got, spelled_lost}
 use Rattle.sheet.proofs.field_lines.field_line.Goals as goal
 
-pub returns-else-clock : goal.returns-else-clock
-returns-else-clock c =
-    subst (λ m. Lost AnyFieldLine c.args.sheet.now c.args.from (c.args.from + m))
-    (sym (c.max-else-clock.ensures ∙ ap (λ m. max m c.matched-clock.result) c.max.ensures))
-    (fields_lost _ _ _ _ _ c.matched-bits.ensures c.matched-bytes.ensures c.matched-clock.ensures c.if-bits.false c.if-bytes.false c.if-clock.false)
+listed : (name : FieldName) → Contains {X = List ℕ × FieldName} ((codes "bits\n", Bits) ∷ (codes "bytes\n", Bytes) ∷ (codes "clock\n", Clock) ∷ []) (field_word name ++ line_end ∷ [], name)
+listed Bits = (0, lit< tt, refl)
+listed Bytes = (1, lit< tt, refl)
+listed Clock = (2, lit< tt, refl)
+
+pub returns : goal.returns
+returns c =
+    MatchResult-weaker c.one_of.result c.one_of.ensures (λ line h. spelled_got (record { each = (refl, (refl, (refl, tt))); all = listed }) h)
+    (λ stop h. spelled_lost (record { each = (refl, (refl, (refl, tt))); all = listed }) h)

@@ -1,10 +1,9 @@
-use Rattle.std.proofs.Common.{◌-◌, ◌≤◌, length, vec_items, vec_len}
+use Rattle.std.proofs.Common.{◌-◌, ◌≤◌, vec_items, vec_len}
 use Rattle.sheet.specs.CallNumbers.{NumbersAt}
 use Rattle.sheet.proofs.numbers.code_row.Given as goal
 
-abbrev pub invariant-loop-items : goal.invariant-loop-items
-invariant-loop-items l =
-    (l.end ≤ length l.sheet) × (vec_len l.items ≤ l.most) × NumbersAt l.sheet l.from l.end (vec_items l.items)
+abbrev pub invariant-loop-from : goal.invariant-loop-from
+invariant-loop-from l = (vec_len l.codes ≤ l.most) × NumbersAt l.from.sheet.now l.from.place l.end (vec_items l.codes)
 
-abbrev pub decreases-loop-items : goal.decreases-loop-items
-decreases-loop-items l = l.most - vec_len l.items
+abbrev pub decreases-loop-from : goal.decreases-loop-from
+decreases-loop-from l = l.most - vec_len l.codes

@@ -1,8 +1,11 @@
-use Rattle.std.proofs.Common.{refl}
+use Rattle.std.proofs.Common.{sym, ◌∙◌}
 use Rattle.sheet.proofs.CallRows.{number_text}
 use Rattle.sheet.proofs.numbers.digits.Goals as goal
 
 pub returns : goal.returns
 returns c =
-    let (within, blank) = c.if-not-stands_at.ensures.0 refl in
-    number_text _ _ _ within blank c.digits_end-end.ensures c.if-end-place.false
+    let (blank, past) = c.in_ok-past.ensures in
+    let sheet = c.at-first.ensures.sheet in
+    let place = c.at-first.ensures.place ∙ past in
+    number_text blank (rw (sheet, place) at c.digits_end-end.ensures) (λ e. c.if-end-first.false (e ∙ sym place)) (rw (sheet, place) at c.part.ensures.text)
+    c.part.ensures.ends

@@ -9,7 +9,7 @@ use Rattle.sheet.proofs.sections.calls_section.Given as goal
 
 abbrev pub invariant-loop : goal.invariant-loop
 invariant-loop l =
-    (l.at ≤ length l.sheet)
-    × Rest AnyCalls (Times AnyCallLine (l.end - l.counter)) l.sheet l.from l.at
-    × Got (λ x. Lines IsCallLine x (map given_by (vec_items l.calls))) l.sheet l.initial.at l.at
+    (l.next ≤ length l.from.sheet.now)
+    × Rest AnyCalls (Times AnyCallLine (l.end - l.counter)) l.from.sheet.now l.from.place l.next
+    × Got (λ x. Lines IsCallLine x (map given_by (vec_items l.calls))) l.from.sheet.now l.initial.next l.next
     × (length (map given_by (vec_items l.calls)) ≡ l.counter)

@@ -11,7 +11,7 @@ use Rattle.sheet.proofs.sections.moduli_section.Given as goal
 
 abbrev pub invariant-loop-i : goal.invariant-loop-i
 invariant-loop-i l =
-    (l.at ≤ length l.sheet)
-    × Rest AnyModuli (Times AnyLine (l.counted.count - l.i)) l.sheet l.from l.at
-    × ((es : List Expression) × Got (λ x. Lines IsModulusLine x es) l.sheet l.counted.end l.at × (length es ≡ l.i)
+    (l.next ≤ length l.from.sheet.now)
+    × Rest AnyModuli (Times AnyLine (l.count.value - l.i)) l.from.sheet.now l.from.place l.next
+    × ((es : List Expression) × Got (λ x. Lines IsModulusLine x es) l.from.sheet.now l.count.end l.next × (length es ≡ l.i)
     × Noted (arithmetic_of l.field) l.first es l.initial.moduli l.moduli)

@@ -1,0 +1,19 @@
+-- Words of a table, and how far a text goes along one of them.
+use Rattle.std.specs.Prelude.{◌==◌, ℕ, List, map, Contains}
+use Rattle.std.specs.Borrow.{Bor}
+use Rattle.std.specs.List.{prefix_len, zip}
+
+-- How many bytes two texts have in common from the front on.
+abbrev pub common : List ℕ → List ℕ → ℕ
+common x word = prefix_len (λ p. p.0 == p.1) (zip x word)
+
+-- The words of a table, each with what it stands for.
+abbrev pub words : {T : Type 0} → List (Bor (List ℕ) × T) → List (List ℕ × T)
+words {T} table = map {B = List ℕ × T} (λ e. (e.0.now, e.1)) table
+
+-- A word of the table, and what it stands for.
+pub record IsWord {T : Type 0} (table : List (Bor (List ℕ) × T)) (x : List ℕ) (v : T) : Type 0 where
+  pub listed : Contains (words table) (x, v)
+
+abbrev pub AnyWord : {T : Type 0} → List (Bor (List ℕ) × T) → List ℕ → Type 0
+AnyWord {T} table x = (v : T) × IsWord table x v
