@@ -4,23 +4,15 @@
 use anyhow::anyhow;
 use fault::Fault;
 use field::{Bits, Field};
-use memory::{Memory, PackedCells};
+use memory::{Memory, PackedCells, Returned};
 use plan::Plan;
-use rack::{Channel, NotMade, Rack};
+use rack::{Channel, Rack};
 
 // Over bits: z, z + 1, z^2 + z + 1 and z^3 + z + 1, nine codes each, lowest power first.
 const MODULI: [u16; 36] = [
     0, 1, 0, 0, 0, 0, 0, 0, 0, 1, 1, 0, 0, 0, 0, 0, 0, 0, 1, 1, 1, 0, 0, 0, 0, 0, 0, 1, 1, 0, 1, 0,
     0, 0, 0, 0,
 ];
-
-/// The letter of a channel.
-fn letter(channel: Channel) -> char {
-    match channel {
-        Channel::A => 'A',
-        Channel::B => 'B',
-    }
-}
 
 /// Has a channel put a position of a word into a slot, and says how that ended.
 fn show_put<M: Memory, R: Print>(
@@ -31,12 +23,12 @@ fn show_put<M: Memory, R: Print>(
     position: usize,
     residue: &[u16],
 ) -> anyhow::Result<()> {
-    print!(rt; "    {} puts", letter(channel))?;
+    print!(rt; "    {channel} puts")?;
     for code in residue {
         print!(rt; " {code}")?;
     }
     print!(rt; " at position {position} of slot {slot}: ")?;
-    match rack.put(channel.number(), slot, position, residue) {
+    match rack.put(usize::from(channel), slot, position, residue) {
         Ok(()) => println!(rt; "ok")?,
         Err(fault) => println!(rt; "{}", fault.ground())?,
     }
@@ -50,19 +42,18 @@ fn show_slot<M: Memory, R: Print>(
     channel: Channel,
     slot: usize,
 ) -> anyhow::Result<()> {
-    let letter = letter(channel);
     let mut message = [0; 2];
-    match rack.read(channel.number(), slot, &mut message) {
+    match rack.read(usize::from(channel), slot, &mut message) {
         Ok(found) => {
             let [low, high] = message;
             let margin = found.margin;
             let wrong = found.wrong;
             println!(rt;
-                "  {letter} reads {low} {high} from slot {slot}, with margin {margin}, wrong positions of degree {wrong} in all."
+                "  {channel} reads {low} {high} from slot {slot}, with margin {margin}, wrong positions of degree {wrong} in all."
             )?;
         }
         Err(fault) => println!(rt;
-            "  {letter} reads nothing from slot {slot}: {}",
+            "  {channel} reads nothing from slot {slot}: {}",
             fault.ground()
         )?,
     }
@@ -84,7 +75,7 @@ fn show_channels<M: Memory, R: Print>(
     word_of_b: &[u16],
 ) -> anyhow::Result<()> {
     let (a, b) = (Channel::A, Channel::B);
-    if rack.open(a.number(), 0).is_err() || rack.open(b.number(), 1).is_err() {
+    if rack.open(usize::from(a), 0).is_err() || rack.open(usize::from(b), 1).is_err() {
         return Err(anyhow!("a slot does not open"));
     }
     println!(rt;
@@ -128,7 +119,7 @@ fn show_slots<M: Memory + Drop, R: Print>(
             let mut rack = rack;
             show_channels(rt, plan, &mut rack, word_of_a, word_of_b)
         }
-        Err(NotMade { memory: _, fault }) => {
+        Err(Returned { memory: _, fault }) => {
             println!(rt; "{}", fault.ground())?;
             Ok(())
         }

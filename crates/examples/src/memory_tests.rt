@@ -1,10 +1,81 @@
 //! Memories at the edges of their buffers, and layers on them.
+ghost use Rattle.std.specs.Prelude.{◌≡◌};
+ghost use Rattle.memory.specs.Meaning.{Sets, accepts, max_top, replaced};
+ghost use Rattle.memory.specs.Buffers.{bit_top, bits, byte_top, held};
+
 use fault::Fault;
 use laboratory::Mirrored;
-use memory::{ByteCells, Memory, PackedCells, WordCells};
-use spread::{NotSpread, Spread};
+use memory::{Bit, ByteCells, Memory, PackedCells, Returned, WordCells, set_cell};
+use spread::Spread;
 use std::process::Abort;
 use std::test::Fail;
+
+// What one memory over a lent buffer promises, read for bytes, for words and for bits. Each contract is proved from the generic one.
+fn set_byte(buffer: &mut [u8], j: usize, v: u16) -> bool
+    ensures answer { result ≡ accepts (held buffer.old) byte_top j v }
+    ensures after { buffer.new ≡ replaced result buffer.old j v }
+{
+    set_cell::<u8>(buffer, j, v)
+}
+
+fn set_word(buffer: &mut [u16], j: usize, v: u16) -> bool
+    ensures answer { result ≡ accepts (held buffer.old) max_top j v }
+    ensures after { buffer.new ≡ replaced result buffer.old j v }
+{
+    set_cell::<u16>(buffer, j, v)
+}
+
+fn set_bit(buffer: &mut [u8], j: usize, v: u16) -> bool
+    ensures answer { result ≡ accepts (held (bits buffer.old)) bit_top j v }
+    ensures after { bits buffer.new ≡ replaced result (bits buffer.old) j v }
+{
+    set_cell::<Bit>(buffer, j, v)
+}
+
+// The cells of a memory of bytes are the buffer's bytes up to the limit, and so for words and bits; its lender stays.
+fn set_in_bytes(memory: &mut ByteCells<'_>, j: usize, v: u16) -> bool
+    ensures sets { Sets (held memory.old.buffer.now) byte_top j v result (held memory.new.buffer.now) byte_top }
+    ensures buffer { memory.new.buffer.now ≡ replaced result memory.old.buffer.now j v }
+    ensures lender { memory.new.buffer.ghost_name ≡ memory.old.buffer.ghost_name }
+{
+    memory.set(j, v)
+}
+
+fn set_in_words(memory: &mut WordCells<'_>, j: usize, v: u16) -> bool
+    ensures sets { Sets (held memory.old.buffer.now) max_top j v result (held memory.new.buffer.now) max_top }
+    ensures buffer { memory.new.buffer.now ≡ replaced result memory.old.buffer.now j v }
+    ensures lender { memory.new.buffer.ghost_name ≡ memory.old.buffer.ghost_name }
+{
+    memory.set(j, v)
+}
+
+fn set_in_bits(memory: &mut PackedCells<'_>, j: usize, v: u16) -> bool
+    ensures sets { Sets (held (bits memory.old.buffer.now)) bit_top j v result (held (bits memory.new.buffer.now)) bit_top }
+    ensures buffer { bits memory.new.buffer.now ≡ replaced result (bits memory.old.buffer.now) j v }
+    ensures lender { memory.new.buffer.ghost_name ≡ memory.old.buffer.ghost_name }
+{
+    memory.set(j, v)
+}
+
+#[test]
+fn one_cell_of_a_lent_buffer(rt: HostRuntime) -> Result<(), Fail> {
+    let mut bytes = [1, 2, 3];
+    assert_eq!(rt; set_byte(&mut bytes, 1, 255), true);
+    assert_eq!(rt; set_byte(&mut bytes, 2, 256), false);
+    assert_eq!(rt; set_in_bytes(&mut ByteCells::new(&mut bytes), 0, 7), true);
+    assert_eq!(rt; bytes, [7, 255, 3]);
+    let mut words = [1, 2, 3];
+    assert_eq!(rt; set_word(&mut words, 1, 65_535), true);
+    assert_eq!(rt; set_word(&mut words, 3, 0), false);
+    assert_eq!(rt; set_in_words(&mut WordCells::new(&mut words), 0, 7), true);
+    assert_eq!(rt; words, [7, 65_535, 3]);
+    let mut bytes = [0, 255];
+    assert_eq!(rt; set_bit(&mut bytes, 3, 1), true);
+    assert_eq!(rt; set_bit(&mut bytes, 3, 2), false);
+    assert_eq!(rt; set_in_bits(&mut PackedCells::new(&mut bytes), 15, 0), true);
+    assert_eq!(rt; bytes, [8, 127]);
+    Ok(())
+}
 
 // Sets and gets the first and the last cell, and tries one past the end and a number above the top.
 fn edges<M: Memory>(rt: &impl Abort, memory: &mut M, len: usize, top: u16) -> Result<(), Fail> {
@@ -72,8 +143,8 @@ fn spread_of(rt: &(impl Abort + AllocGlobal), len: usize, depth: usize) -> Resul
     let below = Mirrored::new(rt.alloc(), len)?;
     match Spread::new(below, depth) {
         Ok(layer) => Ok(format!(in rt.alloc(); "{}", layer.len())?),
-        Err(NotSpread { below, fault }) => {
-            assert_eq!(rt; below.len(), len);
+        Err(Returned { memory, fault }) => {
+            assert_eq!(rt; memory.len(), len);
             Ok(fault.ground().to_string(rt.alloc())?)
         }
     }

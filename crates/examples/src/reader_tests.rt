@@ -1,8 +1,8 @@
 // Tests of the reader on the plans of the worked examples. The program `trials` draws many more.
 use fault::{Fault, Ground, Layer};
 use field::{Bits, Bytes, Field};
-use plan::Plan;
-use reader::{MARKS_TABLE, MISSING, WORD_TABLE, measure, read};
+use plan::{MOST_POSITIONS, Plan};
+use reader::{Arrived, received};
 use std::process::Abort;
 use std::test::Fail;
 
@@ -21,32 +21,30 @@ const FOUR_OVER_BYTES: [u16; 36] = [
 // z^2 + z + 1 and z^2 + z over bits.
 const TWO_OVER_BITS: [u16; 18] = [1, 1, 1, 0, 0, 0, 0, 0, 0, 0, 1, 1, 0, 0, 0, 0, 0, 0];
 
-fn table(codes: &[u16]) -> [u16; WORD_TABLE] {
-    let mut table = [0; WORD_TABLE];
-    for (entry, code) in table.iter_mut().zip(codes.iter()) {
-        *entry = *code;
-    }
-    table
-}
-
-fn present(marks: &[u8]) -> [u8; MARKS_TABLE] {
-    let mut all = [MISSING; MARKS_TABLE];
-    for (entry, mark) in all.iter_mut().zip(marks.iter()) {
-        *entry = *mark;
+// Which positions are present: the first as they are told, and no other.
+fn presence(first: &[bool]) -> [bool; MOST_POSITIONS] {
+    let mut all = [false; MOST_POSITIONS];
+    for (entry, present) in all.iter_mut().zip(first.iter()) {
+        *entry = *present;
     }
     all
 }
 
-// Reads the codes at the marked positions, and compares the first two codes of the message and its margin.
+// Reads the codes at the positions that are present, and compares the first two codes of the message and its margin.
 fn reads<F: Field>(
     rt: &impl Abort,
     plan: &Plan<F>,
     codes: &[u16],
-    marks: &[u8],
+    present: &[bool],
     message: [u16; 2],
     margin: i32,
 ) -> Result<(), Fail> {
-    match read(plan, &table(codes), &present(marks)) {
+    let residues = received(plan, codes, &presence(present));
+    let arrived = Arrived {
+        plan,
+        residues: &residues,
+    };
+    match arrived.read() {
         Ok(reading) => {
             assert_eq!(rt; [reading.message[0], reading.message[1]], message);
             assert_eq!(rt; reading.margin, margin);
@@ -60,11 +58,16 @@ fn refuses<F: Field>(
     rt: &impl Abort,
     plan: &Plan<F>,
     codes: &[u16],
-    marks: &[u8],
+    present: &[bool],
     number: u8,
     second: usize,
 ) -> Result<(), Fail> {
-    match read(plan, &table(codes), &present(marks)) {
+    let residues = received(plan, codes, &presence(present));
+    let arrived = Arrived {
+        plan,
+        residues: &residues,
+    };
+    match arrived.read() {
         Ok(_) => Err(Fail::new("it is read")),
         Err(fault) => {
             assert_eq!(rt;
@@ -91,31 +94,63 @@ fn plan_of<F: Field>(carriers: usize, moduli: &[u16]) -> Result<Plan<F>, Fail> {
 #[test]
 fn words_over_bits(rt: HostRuntime) -> Result<(), Fail> {
     let plan = plan_of::<Bits>(2, &FOUR_OVER_BITS)?;
-    reads(&rt, &plan, &[1, 0, 1, 1, 1, 1, 0], &[1, 1, 1, 1], [1, 1], 5)?;
-    reads(&rt, &plan, &[1, 0], &[1, 1], [1, 1], 0)?;
-    reads(&rt, &plan, &[1, 0, 0, 0], &[1, 1, 1], [0, 0], 0)?;
-    refuses(&rt, &plan, &[0, 0], &[0, 1], 18, 1)?;
-    refuses(&rt, &plan, &[1, 0, 1, 1, 0, 0, 0], &[1, 1, 1, 1], 19, 0)?;
+    reads(
+        &rt,
+        &plan,
+        &[1, 0, 1, 1, 1, 1, 0],
+        &[true, true, true, true],
+        [1, 1],
+        5,
+    )?;
+    reads(&rt, &plan, &[1, 0], &[true, true], [1, 1], 0)?;
+    reads(&rt, &plan, &[1, 0, 0, 0], &[true, true, true], [0, 0], 0)?;
+    refuses(&rt, &plan, &[0, 0], &[false, true], 18, 1)?;
+    refuses(
+        &rt,
+        &plan,
+        &[1, 0, 1, 1, 0, 0, 0],
+        &[true, true, true, true],
+        19,
+        0,
+    )?;
     let plan = plan_of::<Bits>(1, &TWO_OVER_BITS)?;
-    refuses(&rt, &plan, &[0, 0, 0, 1], &[1, 1], 19, 0)?;
-    assert_eq!(rt;
-        measure(
-            &plan,
-            &table(&[0, 0, 0, 1]),
-            &present(&[1, 1]),
-            &table(&[0, 0]),
-        ),
-        -2
-    );
+    refuses(&rt, &plan, &[0, 0, 0, 1], &[true, true], 19, 0)?;
+    let residues = received(&plan, &[0, 0, 0, 1], &presence(&[true, true]));
+    let arrived = Arrived {
+        plan: &plan,
+        residues: &residues,
+    };
+    assert_eq!(rt; arrived.measure(&[0, 0]), -2);
     Ok(())
 }
 
 #[test]
 fn words_over_bytes(rt: HostRuntime) -> Result<(), Fail> {
     let plan = plan_of::<Bytes>(2, &FOUR_OVER_BYTES)?;
-    reads(&rt, &plan, &[1, 3, 5, 9], &[1, 1, 1, 1], [1, 2], 0)?;
+    reads(
+        &rt,
+        &plan,
+        &[1, 3, 5, 9],
+        &[true, true, true, true],
+        [1, 2],
+        0,
+    )?;
     // a number that is no code is wrong for every message
-    reads(&rt, &plan, &[1, 3, 5, 256], &[1, 1, 1, 1], [1, 2], 0)?;
-    refuses(&rt, &plan, &[1, 3, 0, 0], &[1, 1, 1, 1], 19, 0)?;
-    refuses(&rt, &plan, &[1, 300, 400, 7], &[1, 1, 1, 1], 19, 0)
+    reads(
+        &rt,
+        &plan,
+        &[1, 3, 5, 256],
+        &[true, true, true, true],
+        [1, 2],
+        0,
+    )?;
+    refuses(&rt, &plan, &[1, 3, 0, 0], &[true, true, true, true], 19, 0)?;
+    refuses(
+        &rt,
+        &plan,
+        &[1, 300, 400, 7],
+        &[true, true, true, true],
+        19,
+        0,
+    )
 }

@@ -1,11 +1,11 @@
 // Tests of the rack, and of lists of calls, on the plan of four moduli over bits: a word has 7 codes and a message 2.
 use crate::plans::{FOUR_OVER_BITS, plan_of};
-use batch::{Entry, NotLoaded, load, load_pair};
+use batch::{Entry, Loading, load, load_pair};
 use fault::{Fault, Ground, Layer};
 use field::{Bits, Clock, Field};
-use memory::{ByteCells, Memory, PackedCells, WordCells};
+use memory::{ByteCells, Memory, PackedCells, Returned, WordCells};
 use plan::Plan;
-use rack::{Answer, Call, Found, NotMade, Rack, RackFault};
+use rack::{Answer, Call, Found, Rack, RackFault};
 use spread::Spread;
 use std::alloc::{AllocError, Global};
 use std::process::Abort;
@@ -157,7 +157,7 @@ fn not_made<F: Field, M: Memory + Drop>(
 ) -> Result<M, Fail> {
     match Rack::new(plan, memory, slots) {
         Ok(_) => Err(Fail::new("it fits")),
-        Err(NotMade { memory, fault }) => {
+        Err(Returned { memory, fault }) => {
             assert_eq!(rt;
                 fault.ground(),
                 Ground {
@@ -295,9 +295,14 @@ fn runs_on<M: Memory + Drop>(
     slots: usize,
     sheet: &mut [Entry],
 ) -> Result<Option<M>, Fail> {
-    match load::<Bits, M>(2, &FOUR_OVER_BITS, memory, slots, sheet) {
+    let loading = Loading {
+        entries: sheet,
+        memory,
+        slots,
+    };
+    match load::<Bits, M>(2, &FOUR_OVER_BITS, loading) {
         Ok(_) => Ok(None),
-        Err(NotLoaded { memory, fault }) => {
+        Err(Returned { memory, fault }) => {
             assert_eq!(rt; fault.ground().number, 9);
             Ok(Some(memory))
         }
@@ -362,12 +367,16 @@ fn pair_on<M: Memory + Drop, W: Memory + Drop>(
     load_pair::<Bits, M, W>(
         2,
         &FOUR_OVER_BITS,
-        first,
-        2,
-        first_sheet,
-        second,
-        3,
-        second_sheet,
+        Loading {
+            entries: first_sheet,
+            memory: first,
+            slots: 2,
+        },
+        Loading {
+            entries: second_sheet,
+            memory: second,
+            slots: 3,
+        },
     )
     .is_ok()
 }

@@ -5,8 +5,8 @@ ghost use Rattle.std.specs.Prelude.{◌≡◌, ◌<◌};
 
 use fault::Fault;
 use field::{Bits, Bytes, Clock, Field};
-use plan::Plan;
-use reader::{MARKS_TABLE, MISSING, WORD_TABLE, read};
+use plan::{MOST_POSITIONS, Plan};
+use reader::{Arrived, received};
 
 /// Solves gain · x + offset = level, where the gain is a code other than 0 and the others are codes.
 fn solve<F: Field>(gain: u16, offset: u16, level: u16) -> u16
@@ -26,7 +26,7 @@ fn show_field<F: Field, R: Print>(
 ) -> anyhow::Result<()> {
     let level = F::sum(F::product(gain, sample), offset);
     let found = solve::<F>(gain, offset, level);
-    let order = F::size();
+    let order = F::ORDER;
     println!(rt; "The field {name} has {order} codes, 0 to {}.", order - 1)?;
     println!(rt; "  Sample {sample} at gain {gain} and offset {offset} becomes {level}.")?;
     println!(rt; "  Solving for the sample gives {found} again.")?;
@@ -67,13 +67,18 @@ fn show_word<F: Field, R: Print>(rt: &R, plan: &Plan<F>, word: &[u16]) -> anyhow
 fn show_reading<F: Field, R: Print>(
     rt: &R,
     plan: &Plan<F>,
-    residues: &[u16; WORD_TABLE],
-    marks: &[u8; MARKS_TABLE],
+    word: &[u16],
+    present: &[bool; MOST_POSITIONS],
 ) -> anyhow::Result<()> {
-    match read(plan, residues, marks) {
+    let residues = received(plan, word, present);
+    let arrived = Arrived {
+        plan,
+        residues: &residues,
+    };
+    match arrived.read() {
         Ok(reading) => {
             print!(rt; "    reads")?;
-            for code in reading.message.iter().take(plan.message_length()) {
+            for code in reading.codes(plan) {
                 print!(rt; " {code}")?;
             }
             let margin = reading.margin;
@@ -90,27 +95,24 @@ fn show_reading<F: Field, R: Print>(
 /// Damages the word and strikes a position, within the allowance and past it.
 fn show_damage<R: Print>(rt: &R, plan: &Plan<Bits>, word: &[u16; 7]) -> anyhow::Result<()> {
     println!(rt; "Reading: the one message within the allowance, or none.")?;
-    let mut residues = [0; WORD_TABLE];
-    let mut marks = [1; MARKS_TABLE];
-    for (place, code) in word.iter().enumerate() {
-        residues[place] = *code;
-    }
-    residues[0] = 0;
-    marks[3] = MISSING;
+    let mut damaged = *word;
+    let mut present = [true; MOST_POSITIONS];
+    damaged[0] = 0;
+    present[3] = false;
     println!(rt;
         "  The word with its first code turned and its last position missing, 0|0|1 1|–,"
     )?;
-    show_reading(rt, plan, &residues, &marks)?;
-    residues[0] = 1;
-    marks[3] = 1;
-    residues[4] = 0;
-    residues[5] = 0;
+    show_reading(rt, plan, &damaged, &present)?;
+    damaged[0] = 1;
+    present[3] = true;
+    damaged[4] = 0;
+    damaged[5] = 0;
     println!(rt; "  The word with its last position turned to zeros, 1|0|1 1|0 0 0,")?;
-    show_reading(rt, plan, &residues, &marks)?;
-    let mut marks = [MISSING; MARKS_TABLE];
-    marks[1] = 1;
+    show_reading(rt, plan, &damaged, &present)?;
+    let mut present = [false; MOST_POSITIONS];
+    present[1] = true;
     println!(rt; "  One position of the four, –|0|–|–,")?;
-    show_reading(rt, plan, &residues, &marks)
+    show_reading(rt, plan, &damaged, &present)
 }
 
 /// Makes a plan, encodes a message under it, and reads it back.

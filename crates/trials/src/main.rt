@@ -4,8 +4,8 @@
 #![tactic(auto)]
 
 use field::{Bits, Bytes, Clock, Field};
-use plan::{MODULUS_CODES, Plan};
-use reader::{MARKS_TABLE, MESSAGE_TABLE, measure, read};
+use plan::{MODULUS_CODES, MOST_POSITIONS, Plan};
+use reader::{Arrived, MESSAGE_TABLE, received};
 
 /// Enough for the moduli of `MOST_DRAWN` positions.
 const CODES: usize = 54;
@@ -66,7 +66,7 @@ fn draw_moduli<F: Field>(draws: &mut Draws, positions: usize) -> [u16; CODES] {
         for power in 0..degree {
             let at = i.saturating_mul(MODULUS_CODES).saturating_add(power);
             if at < CODES {
-                codes[at] = draws.below(F::size());
+                codes[at] = draws.below(F::ORDER);
             }
         }
         let at = i.saturating_mul(MODULUS_CODES).saturating_add(degree);
@@ -84,7 +84,7 @@ fn damage<F: Field>(plan: &Plan<F>, draws: &mut Draws, word: &mut [u16; MESSAGE_
             let at = plan.start(i);
             if at < MESSAGE_TABLE {
                 word[at] = if draws.one_in(5) {
-                    F::size()
+                    F::ORDER
                 } else {
                     F::sum(word[at], 1)
                 };
@@ -94,19 +94,19 @@ fn damage<F: Field>(plan: &Plan<F>, draws: &mut Draws, word: &mut [u16; MESSAGE_
 }
 
 /// Calls some positions missing.
-fn strike(draws: &mut Draws) -> [u8; MARKS_TABLE] {
-    let mut marks = [1; MARKS_TABLE];
-    for mark in marks.iter_mut() {
+fn strike(draws: &mut Draws) -> [bool; MOST_POSITIONS] {
+    let mut present = [true; MOST_POSITIONS];
+    for position in present.iter_mut() {
         if draws.one_in(5) {
-            *mark = 0;
+            *position = false;
         }
     }
-    marks
+    present
 }
 
 /// The message whose codes are the digits of a number in base q.
 fn message_number<F: Field>(mut number: u64, length: usize) -> [u16; MESSAGE_TABLE] {
-    let order = F::size() as u64;
+    let order = F::ORDER as u64;
     let mut message = [0; MESSAGE_TABLE];
     for code in message.iter_mut().take(length) {
         *code = (number % order) as u16;
@@ -119,22 +119,19 @@ fn message_number<F: Field>(mut number: u64, length: usize) -> [u16; MESSAGE_TAB
 fn messages<F: Field>(length: usize) -> u64 {
     let mut count = 1u64;
     for _ in 0..length {
-        count = count.saturating_mul(F::size() as u64);
+        count = count.saturating_mul(F::ORDER as u64);
     }
     count
 }
 
 /// The margin of the only message within the allowance, by trying all of them; none where there is none or more than one.
-fn search<F: Field>(
-    plan: &Plan<F>,
-    word: &[u16; MESSAGE_TABLE],
-    marks: &[u8; MARKS_TABLE],
-) -> (u32, u64) {
-    let length = plan.message_length();
+fn search<F: Field>(arrived: &Arrived<F>) -> (u32, u64) {
+    let length = arrived.plan.message_length().min(MESSAGE_TABLE);
     let mut found = 0u32;
     let mut which = 0u64;
     for number in 0..messages::<F>(length).min(MOST_SEARCHED) {
-        if measure(plan, word, marks, &message_number::<F>(number, length)) >= 0 {
+        let message = message_number::<F>(number, length);
+        if arrived.measure(&message[0..length]) >= 0 {
             more(&mut found);
             which = number;
         }
@@ -142,56 +139,29 @@ fn search<F: Field>(
     (found, which)
 }
 
-/// Whether the first codes of two tables are the same.
-fn same(a: &[u16; MESSAGE_TABLE], b: &[u16; MESSAGE_TABLE], length: usize) -> bool {
-    for (x, y) in a.iter().zip(b.iter()).take(length) {
-        if *x != *y {
-            return false;
-        }
-    }
-    true
-}
-
 /// Holds one reading against the message that was sent, and against the search where that is short.
-fn judge<F: Field>(
-    plan: &Plan<F>,
-    sent: &[u16; MESSAGE_TABLE],
-    word: &[u16; MESSAGE_TABLE],
-    marks: &[u8; MARKS_TABLE],
-    counts: &mut Counts,
-) {
-    let length = plan.message_length();
-    let margin = measure(plan, word, marks, sent);
+fn judge<F: Field>(arrived: &Arrived<F>, sent: &[u16], counts: &mut Counts) {
+    let length = arrived.plan.message_length().min(MESSAGE_TABLE);
+    let margin = arrived.measure(sent);
     let short = messages::<F>(length) <= MOST_SEARCHED;
-    let (found, which) = if short {
-        search(plan, word, marks)
-    } else {
-        (0, 0)
-    };
+    let (found, which) = if short { search(arrived) } else { (0, 0) };
     if short {
         more(&mut counts.searched);
     }
-    match read(plan, word, marks) {
+    match arrived.read() {
         Ok(reading) => {
-            if margin >= 0 && same(&reading.message, sent, length) && reading.margin == margin {
+            let message = reading.codes(arrived.plan);
+            if margin >= 0 && message == sent && reading.margin == margin {
                 more(&mut counts.read);
             } else if margin >= 0 {
                 more(&mut counts.missed);
-            } else if reading.margin >= 0
-                && measure(plan, word, marks, &reading.message) == reading.margin
-            {
+            } else if reading.margin >= 0 && arrived.measure(message) == reading.margin {
                 more(&mut counts.other);
             } else {
                 more(&mut counts.false_other);
             }
-            if short
-                && (found != 1
-                    || !same(
-                        &reading.message,
-                        &message_number::<F>(which, length),
-                        length,
-                    ))
-            {
+            let only = message_number::<F>(which, length);
+            if short && (found != 1 || message != &only[0..length]) {
                 more(&mut counts.search_differs);
             }
         }
@@ -227,7 +197,7 @@ fn trial<F: Field>(draws: &mut Draws, counts: &mut Counts) {
     let word_length = plan.word_length().min(MESSAGE_TABLE);
     let mut message = [0; MESSAGE_TABLE];
     for code in message.iter_mut().take(message_length) {
-        *code = draws.below(F::size());
+        *code = draws.below(F::ORDER);
     }
     let mut word = [0; MESSAGE_TABLE];
     if plan
@@ -238,8 +208,12 @@ fn trial<F: Field>(draws: &mut Draws, counts: &mut Counts) {
         return;
     }
     damage(&plan, draws, &mut word);
-    let marks = strike(draws);
-    judge(&plan, &message, &word, &marks, counts);
+    let residues = received(&plan, &word, &strike(draws));
+    let arrived = Arrived {
+        plan: &plan,
+        residues: &residues,
+    };
+    judge(&arrived, &message[0..message_length], counts);
 }
 
 fn run<F: Field, R: Print>(rt: &R, name: &str, trials: u32) -> anyhow::Result<()> {
