@@ -41,6 +41,6 @@ pub held_bounded : (row : List ℕ) (top : ℕ) → 1 ≤ top → top ≤ max_to
 unfolding held
 held_bounded row top low high = record { few = omega (arith, length-take max_cells row); top_low = low; top_high = high }
 
--- how many cells a row of n entries gives
+-- How many cells a row of n entries gives, for code that has the row itself.
 abbrev pub held_len : ℕ → ℕ
 held_len n = min max_cells n

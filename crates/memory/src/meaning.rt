@@ -25,7 +25,7 @@ pub trait Memory {
         ensures { Gets (cells self.now) (top self.now) j result };
 
     /// Replaces cell j, and no other, by v. Refuses, and alters nothing, when there is no cell j or v is above the top. Answers whether it
-    /// was accepted; there is nothing else to say of a refusal.
+    /// was accepted, and no error: which of the two a refusal was is plain from `len` and `top_value`.
     fn set(&mut self, j: usize, v: u16) -> bool
         ensures { Sets (cells self.old) (top self.old) j v result (cells self.new) (top self.new) };
 }

@@ -32,7 +32,7 @@ impl<F: Field> Plan<F> {
     }
 
     /// What position i holds in the word of the message, the remainder by its modulus, in a table that has zeros after it; all zeros
-    /// past the positions.
+    /// past the positions. A table, for nothing is allocated.
     pub fn residue(&self, i: usize, message: &[u16]) -> [u16; MODULUS_CODES]
         ensures { take (degree (scheme self.now) i) result ≡ residue (scheme self.now) message.now i }
     {
@@ -50,6 +50,7 @@ impl<F: Field> Plan<F> {
         requires { length buffer.old ≡ word_length (scheme self.now) }
         ensures { buffer.new ≡ word (scheme self.now) message.now }
     {
+        // By position: its residue, its start and its end go by its number.
         for i in 0..self.positions() {
             let residue = self.residue(i, message);
             let from = self.start(i);

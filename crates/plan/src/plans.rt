@@ -22,7 +22,7 @@ pub struct Plan<F: Field> {
     ghost lawful: { IsScheme (kept F.Field.arithmetic carriers positions moduli) },
 }
 
-// By hand, since no derive makes a copy of a generic struct with ghost fields.
+// By hand: `derive_where` makes no `Clone` over ghost fields.
 impl<F: Field> Clone for Plan<F> {
     ghost is_clone = { λ plan copy. copy ≡ plan };
 

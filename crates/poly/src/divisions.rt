@@ -29,7 +29,7 @@ fn divide_long<F: Field>(remainder: &mut [u16], divisor: &[u16], quotient: &mut 
 }
 
 /// Divides what `remainder` holds: it holds the remainder afterwards, and `quotient` is written whole. Answers the degrees
-/// of quotient and remainder. By zero the quotient is zero and the dividend stays as the remainder.
+/// of quotient and remainder, -1 for zero as everywhere. By zero the quotient is zero and the dividend stays as the remainder.
 pub fn divide<F: Field>(remainder: &mut [u16], divisor: &[u16], quotient: &mut [u16]) -> (i32, i32)
     requires remainder_fits { length remainder.old ≤ length quotient.old }
     requires divisor_short { length divisor.now ≤ longest }

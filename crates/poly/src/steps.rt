@@ -13,7 +13,8 @@ use crate::products::subtract_product;
 use field::Field;
 
 /// Two remainders that follow one another, and the factors of the second polynomial in them. No ghost field keeps what a run
-/// keeps: `start` takes any numbers, and the facts are of the two polynomials begun with, which are not held here.
+/// keeps: `start` takes any numbers, and the facts are of the two polynomials begun with, which are not held here. Four buffers and no pairs:
+/// a division takes the remainders alone, and a product the factors.
 #[derive(Clone, Copy)]
 pub struct Euclid {
     pub previous: [u16; CAPACITY],

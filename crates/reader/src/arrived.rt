@@ -33,7 +33,8 @@ fn part_of<'a, F: Field>(plan: &Plan<F>, word: &'a [u16], i: usize) -> &'a [u16]
     &rest[0..plan.degree(i).min(rest.len())]
 }
 
-/// The residues of the positions that are present, `None` for the others. Of a word that ends early the last residues are short,
+/// The residues of the positions that are present, `None` for the others. Flags come in, as a slot keeps them, and a table goes out,
+/// for nothing is allocated. Of a word that ends early the last residues are short,
 /// and so wrong for every message.
 pub fn received<'a, F: Field>(
     plan: &Plan<F>,

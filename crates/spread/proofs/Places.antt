@@ -55,15 +55,26 @@ module _ (d w : ℕ) (above : 0 < d) where
   unfolding across
   across_permutes = record { inside = across_inside; one_to_one = across_same; onto = across_met }
 
-pub place_permutes : (depth len : ℕ) → divides depth len ≡ true → Permutes len (place depth len)
-place_permutes depth len e =
+same_permutes : (n : ℕ) → Permutes n (λ j. j)
+same_permutes n = record { inside = λ j h. h; one_to_one = λ j k hj hk e. e; onto = λ k h. (k, h, refl) }
+
+by_depth : (depth len : ℕ) (b : Bool) → divides depth len ≡ b → Permutes len (λ j. cond b (j % depth * (len / depth) + j / depth) j)
+by_depth depth len true e =
     let parts = and_parts (ltb 0 depth) (eqb (len % depth) 0) e in
     let whole : len / depth * depth ≡ len = omega (arith, div-add-mod' len depth, eqb-true (len % depth) 0 parts.1) in
     subst (λ (n : ℕ). Permutes n (λ j. j % depth * (len / depth) + j / depth)) whole (across_permutes depth (len / depth) (ltb-true 0 depth parts.0))
+by_depth depth len false e = same_permutes len
 
-module _ (depth : ℕ) (below : List ℕ) (divided : divides depth (length below) ≡ true) (j : ℕ) where
+pub place_permutes : (depth len : ℕ) → Permutes len (place depth len)
+place_permutes depth len = by_depth depth len (divides depth len) refl
+
+-- where a cell of a layer lies
+pub place_divided : (depth len j : ℕ) → divides depth len ≡ true → place depth len j ≡ j % depth * (len / depth) + j / depth
+place_divided depth len j e = ap (λ b. cond b (j % depth * (len / depth) + j / depth) j) e
+
+module _ (depth : ℕ) (below : List ℕ) (j : ℕ) where
   permutes : Permutes (length below) (place depth (length below))
-  permutes = place_permutes depth (length below) divided
+  permutes = place_permutes depth (length below)
 
   module _ (h : j < length below) where
     inside : place depth (length below) j < length below
@@ -109,6 +120,9 @@ module _ (depth : ℕ) (below : List ℕ) (divided : divides depth (length below
 
     pub stands : Stands depth below j (place depth (length below) j)
     stands = record { gets = gets_placed; sets = sets_placed }
+
+    pub stands_divided : divides depth (length below) ≡ true → Stands depth below j (j % depth * (length below / depth) + j / depth)
+    stands_divided e = subst (λ (at : ℕ). Stands depth below j at) (place_divided depth (length below) j e) stands
 
   pub missing : length below ≤ j → Missing depth below j
   missing past =

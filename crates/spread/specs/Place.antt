@@ -15,9 +15,9 @@ depth_ground = record { number = 8; layer = Memory; first = 0; second = 0 }
 abbrev pub divides : ℕ → ℕ → Bool
 divides depth len = nat_lt 0 depth && len % depth == 0
 
--- the cell below that is cell j of the layer
+-- the cell below that is cell j of the layer. Of a depth that does not divide, which no layer has, it is said to be cell j itself.
 abbrev pub place : ℕ → ℕ → ℕ → ℕ
-place depth len j = j % depth * (len / depth) + j / depth
+place depth len j = cond (divides depth len) (j % depth * (len / depth) + j / depth) j
 
 -- the same of any number: nothing where the layer has no cell j
 abbrev pub placed : ℕ → ℕ → ℕ → Option ℕ

@@ -59,7 +59,7 @@ impl<M: Memory> Spread<M> {
     }
 
     /// Where cell j lies below, or nothing when there is no cell j.
-    #[tactic(auto, using(crate::proofs::Places::place_permutes, crate::proofs::Places::missing, crate::proofs::Places::stands))]
+    #[tactic(auto, using(crate::proofs::Places::place_permutes, crate::proofs::Places::missing, crate::proofs::Places::stands_divided))]
     pub fn place_below(&self, j: usize) -> Option<usize>
         ensures value { result ≡ placed self.now.depth (length (M.cells self.now.below)) j }
         ensures stands { MatchOption result (Missing self.now.depth (M.cells self.now.below) j) (Stands self.now.depth (M.cells self.now.below) j) }

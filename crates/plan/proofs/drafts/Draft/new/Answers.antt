@@ -9,7 +9,7 @@ returns c =
     let whole = c.as_chunks.ensures.back_len in
     let many = c.as_chunks.ensures.front_len in (
       record {
-        whole = omega (arith, whole, c.if-rest-ne0.false);
+        whole = omega (arith, whole, c.if-left_over-ne0.false);
         enough = omega (arith, many, c.if-n-lt-FEWEST_POSITIONS.false);
         few = omega (arith, many, c.if-n-gt-MOST_POSITIONS.false);
         carrying = c.if-carriers-lt1.false;
