@@ -18,7 +18,7 @@ pub struct NotPaired<M: Memory, W: Memory> {
 }
 
 /// What is to be run: a list of calls, on a rack of so many slots over a memory. In a clause `entry` is what was handed in, and
-/// `exit.0` the list as it is afterwards.
+/// `exit` holds what was lent with it, as it is afterwards: `exit.0`, the first, is the list.
 pub struct Loading<'a, M: Memory> {
     pub entries: &'a mut [Entry],
     pub memory: M,
@@ -38,6 +38,7 @@ pub fn load<F: Field, M: Memory>(
         memory,
         slots,
     } = loading;
+    // By match: a closure for `map_err` would take the memory that the rack needs.
     let plan = match Plan::<F>::new(carriers, moduli) {
         Ok(plan) => plan,
         Err(fault) => {

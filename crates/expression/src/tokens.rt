@@ -55,7 +55,7 @@ pub fn numeral_of(digits: &[u8]) -> u16
     // No `fold`: its closure cannot tell how many digits came before, and so not that the next number fits.
     let mut number = 0;
     for digit in digits {
-        number = 10 * number + (*digit - b'0') as u16;
+        number = 10 * number + u16::from(*digit - b'0');
     }
     number
 }

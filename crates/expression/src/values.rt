@@ -89,7 +89,8 @@ impl Operation for ProductOf {
 pub fn power_value(n: u16) -> Value
     ensures { result ≡ power_value n }
 {
-    let exponent = n as usize;
+    let exponent = usize::from(n);
+    // By if: `then` takes a closure, where it is not known that the exponent fits.
     if exponent < MODULUS_CODES {
         Some(monomial(1, exponent))
     } else {

@@ -38,7 +38,7 @@ cell_of s slot i = slot * word_length s + start s i
 abbrev pub cells_at : Scheme → List ℕ → ℕ → ℕ → List ℕ
 cells_at s cells slot i = take (degree s i) (drop (cell_of s slot i) cells)
 
--- The account of a slot as its marks and cells stand: a position that is present has what its cells hold.
+-- The account of a slot as its record and cells stand: a position that is present has what its cells hold.
 abbrev pub account_of : State → ℕ → Account
 account_of r slot i = cond (slice_index_or (record_at r slot).present i false) (Some (cells_at r.scheme r.cells slot i)) None
 
@@ -70,7 +70,7 @@ overwritten cells at codes = take at cells ++ (codes ++ drop (at + length codes)
 abbrev pub marked : SlotRecord → ℕ → Bool → SlotRecord
 marked entry position mark = record { owner = entry.owner; present = slice_set entry.present position mark }
 
--- What a call that meets none of the grounds 10 to 17 makes of the rack. The marks of a closed slot stay, and count for nothing.
+-- What a call that meets none of the grounds 10 to 17 makes of the rack. What is present in a closed slot stays noted, and counts for nothing.
 abbrev pub rack_changed : State → Request → State
 rack_changed r (opens channel slot) =
     with_record r slot (record { owner = Some (channel_numbered channel); present = replicate most_positions false })

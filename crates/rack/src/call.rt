@@ -1,6 +1,7 @@
 //! A call as a value, so that lists of calls can be written down, and what a call is answered.
 
-/// One of the six calls, with what it is given. Residues, messages and buffers may have any length; a buffer is the call's own.
+/// One of the six calls, with what it is given. Residues, messages and buffers may have any length; a buffer is the call's own. Each case
+/// names its channel and its slot, as a call is written down.
 #[derive(Drop)]
 pub enum Call {
     /// The slot becomes the channel's.

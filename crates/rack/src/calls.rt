@@ -1,7 +1,8 @@
 //! The six calls. Each checks what it is given first, and changes one record at most.
 //!
 //! A call is named with its channel and its slot as plain numbers. Any two may come, and each has a check of its own, so a struct
-//! of them would be taken apart at once.
+//! of them would be taken apart at once. A record is written through a name for its table: the check does not cover a write into a
+//! struct with a ghost field that lies within another.
 ghost use Rattle.std.specs.Prelude.{◌≡◌, ◌<◌};
 ghost use Rattle.memory.specs.Meaning.{Sets};
 ghost use Rattle.plan.specs.Held.{scheme};
@@ -62,7 +63,7 @@ impl<F: Field, M: Memory> Rack<F, M> {
         Ok(())
     }
 
-    /// Fills the buffer with the message within the allowance of what the slot's marks and cells say, and answers its margin and e.
+    /// Fills the buffer with the message within the allowance of what the slot's record and cells say, and answers its margin and e.
     pub fn read(&self, channel: usize, slot: usize, buffer: &mut [u16]) -> Result<Found, RackFault>
         ensures { CallOn self.now (reads channel slot buffer.old) (found result) self.now (reads channel slot buffer.new) }
     {
@@ -78,7 +79,7 @@ impl<F: Field, M: Memory> Rack<F, M> {
         })
     }
 
-    /// The margin of the message under what the slot's marks and cells say, negative ones too.
+    /// The margin of the message under what the slot's record and cells say, negative ones too.
     pub fn measure(&self, channel: usize, slot: usize, message: &[u16]) -> Result<i32, RackFault>
         ensures { CallOn self.now (measures channel slot message.now) (margin_told result) self.now (measures channel slot message.now) }
     {
@@ -122,7 +123,8 @@ impl<F: Field, M: Memory> Rack<F, M> {
         load(&self.memory, slot * count, count)
     }
 
-    // What the reader makes of the slot.
+    // What the reader makes of the slot. What has arrived is put together here and in `measure`: it lends the slot's word, which lives
+    // no longer than either.
     fn read_slot(&self, slot: usize) -> Result<Reading, SlotFault>
         requires { slot < self.now.slots.count }
         ensures { SlotRead (scheme self.now.plan) (account_of (state self.now) slot) result }

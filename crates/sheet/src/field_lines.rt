@@ -8,7 +8,7 @@ ghost use Rattle.sheet.specs.Parts.{AnyFieldLine};
 use crate::words::one_of;
 use expression::{Cursor, FieldName, Parsed, Stop};
 
-/// The line of each field.
+/// The line of each field: with the end of the line, so that the place where none goes on is found at once.
 const FIELD_LINES: [(&[u8], FieldName); 3] = [
     (b"bits\n", FieldName::Bits),
     (b"bytes\n", FieldName::Bytes),

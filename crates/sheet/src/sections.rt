@@ -39,6 +39,7 @@ pub(crate) fn moduli_section(
 {
     let count = count_line(from, MODULI)?;
     let mut next = count.end;
+    // By number: a line is named by how many stand before it.
     for i in 0..count.value {
         let modulus = modulus_line_at(from.at(next), field)?;
         moduli.keep(first + i, modulus.value)?;
