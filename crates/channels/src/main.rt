@@ -2,32 +2,76 @@
 #![tactic(auto)]
 
 use anyhow::anyhow;
-use fault::Fault;
-use field::{Bits, Field};
-use memory::{Memory, PackedCells, Returned};
+use fault::{Fault, Ground};
+use field::Bits;
+use memory::{Memory, PackedCells};
 use plan::Plan;
 use rack::{Channel, Rack};
+use std::fmt;
 
-// Over bits: z, z + 1, z^2 + z + 1 and z^3 + z + 1, nine codes each, lowest power first.
+// Over bits: z, z + 1, z^2 + z + 1 and z^3 + z + 1, nine codes each, lowest power first. The table stands in `tour` and in the
+// tests too: a program does not stand on another, nor on the tests.
 const MODULI: [u16; 36] = [
     0, 1, 0, 0, 0, 0, 0, 0, 0, 1, 1, 0, 0, 0, 0, 0, 0, 0, 1, 1, 1, 0, 0, 0, 0, 0, 0, 1, 1, 0, 1, 0,
     0, 0, 0, 0,
 ];
 
-/// Has a channel put a position of a word into a slot, and says how that ended.
-fn show_put<M: Memory, R: Print>(
-    rt: &R,
-    rack: &mut Rack<Bits, M>,
+/// Numbers, each after a blank. The programs that show numbers so have one each, since none stands on another.
+#[derive(Clone, Copy)]
+struct Numbers<'a>(&'a [u16]);
+
+impl<'a> fmt::Display for Numbers<'a> {
+    fn fmt<W: fmt::Write>(&self, f: &mut fmt::Formatter<W>) -> fmt::Result {
+        for number in self.0 {
+            write!(f, " {number}")?;
+        }
+        Ok(())
+    }
+}
+
+/// A plan, and the words under it that the channels gather: of the messages 1 1 and 0 1. `tour` makes its own, since a program does not
+/// stand on another.
+#[derive(Drop)]
+struct Sample {
+    plan: Plan<Bits>,
+    word_of_a: [u16; 7],
+    word_of_b: [u16; 7],
+}
+
+/// A channel, the slot that it gathers in, and the word that it puts there.
+#[derive(Clone, Copy)]
+struct Gathering<'a> {
     channel: Channel,
     slot: usize,
-    position: usize,
-    residue: &[u16],
-) -> anyhow::Result<()> {
-    print!(rt; "    {channel} puts")?;
-    for code in residue {
-        print!(rt; " {code}")?;
+    word: &'a [u16],
+}
+
+impl<'a> Gathering<'a> {
+    /// The codes of one position of the word; `received` would cut out all at once.
+    fn residue(&self, plan: &Plan<Bits>, position: usize) -> &'a [u16] {
+        let end = plan.start(position.saturating_add(1));
+        self.word.get(plan.start(position)..end).unwrap_or(&[])
     }
-    print!(rt; " at position {position} of slot {slot}: ")?;
+}
+
+/// Has a channel open its slot.
+fn open<M: Memory>(rack: &mut Rack<Bits, M>, gathering: &Gathering) -> anyhow::Result<()> {
+    rack.open(usize::from(gathering.channel), gathering.slot)
+        .map_err(|_| anyhow!("a slot does not open"))
+}
+
+/// Has a channel put a position of its word, and says how that ended.
+fn show_put<M: Memory, R: Print>(
+    rt: &R,
+    plan: &Plan<Bits>,
+    rack: &mut Rack<Bits, M>,
+    gathering: &Gathering,
+    position: usize,
+) -> anyhow::Result<()> {
+    let Gathering { channel, slot, .. } = *gathering;
+    let residue = gathering.residue(plan, position);
+    let codes = Numbers(residue);
+    print!(rt; "    {channel} puts{codes} at position {position} of slot {slot}: ")?;
     match rack.put(usize::from(channel), slot, position, residue) {
         Ok(()) => println!(rt; "ok")?,
         Err(fault) => println!(rt; "{}", fault.ground())?,
@@ -35,21 +79,21 @@ fn show_put<M: Memory, R: Print>(
     Ok(())
 }
 
-/// Has a channel read a slot, and says what came of it.
+/// Has a channel read its slot, and says what came of it.
 fn show_slot<M: Memory, R: Print>(
     rt: &R,
     rack: &Rack<Bits, M>,
-    channel: Channel,
-    slot: usize,
+    gathering: &Gathering,
 ) -> anyhow::Result<()> {
+    let Gathering { channel, slot, .. } = *gathering;
     let mut message = [0; 2];
     match rack.read(usize::from(channel), slot, &mut message) {
         Ok(found) => {
-            let [low, high] = message;
+            let codes = Numbers(&message);
             let margin = found.margin;
             let wrong = found.wrong;
             println!(rt;
-                "  {channel} reads {low} {high} from slot {slot}, with margin {margin}, wrong positions of degree {wrong} in all."
+                "  {channel} reads{codes} from slot {slot}, with margin {margin}, wrong positions of degree {wrong} in all."
             )?;
         }
         Err(fault) => println!(rt;
@@ -60,109 +104,80 @@ fn show_slot<M: Memory, R: Print>(
     Ok(())
 }
 
-/// The codes of one position of a word.
-fn residue_of<'a, F: Field>(plan: &Plan<F>, word: &'a [u16], position: usize) -> &'a [u16] {
-    word.get(plan.start(position)..plan.start(position.saturating_add(1)))
-        .unwrap_or(&[])
-}
-
 /// Channel A gathers a word in slot 0 and channel B another in slot 1, by turns, and then B reaches for A's slot.
 fn show_channels<M: Memory, R: Print>(
     rt: &R,
-    plan: &Plan<Bits>,
+    sample: &Sample,
     rack: &mut Rack<Bits, M>,
-    word_of_a: &[u16],
-    word_of_b: &[u16],
 ) -> anyhow::Result<()> {
-    let (a, b) = (Channel::A, Channel::B);
-    if rack.open(usize::from(a), 0).is_err() || rack.open(usize::from(b), 1).is_err() {
-        return Err(anyhow!("a slot does not open"));
-    }
+    let plan = &sample.plan;
+    let a = Gathering {
+        channel: Channel::A,
+        slot: 0,
+        word: &sample.word_of_a,
+    };
+    let b = Gathering {
+        channel: Channel::B,
+        slot: 1,
+        word: &sample.word_of_b,
+    };
+    open(rack, &a)?;
+    open(rack, &b)?;
     println!(rt;
         "  Channel A opens slot 0 for the word of 1 1, and channel B slot 1 for that of 0 1. They put by turns:"
     )?;
     for position in 0..plan.positions() {
-        show_put(
-            rt,
-            rack,
-            a,
-            0,
-            position,
-            residue_of(plan, word_of_a, position),
-        )?;
-        show_put(
-            rt,
-            rack,
-            b,
-            1,
-            position,
-            residue_of(plan, word_of_b, position),
-        )?;
+        show_put(rt, plan, rack, &a, position)?;
+        show_put(rt, plan, rack, &b, position)?;
     }
-    show_slot(rt, rack, a, 0)?;
-    show_slot(rt, rack, b, 1)?;
+    show_slot(rt, rack, &a)?;
+    show_slot(rt, rack, &b)?;
     println!(rt; "  B reaches for A's slot, where nothing changes:")?;
-    show_put(rt, rack, b, 0, 0, residue_of(plan, word_of_b, 0))?;
-    show_slot(rt, rack, a, 0)
+    show_put(rt, plan, rack, &Gathering { slot: 0, ..b }, 0)?;
+    show_slot(rt, rack, &a)
 }
 
 /// Makes a rack of two slots over the memory.
 fn show_slots<M: Memory + Drop, R: Print>(
     rt: &R,
-    plan: &Plan<Bits>,
+    sample: &Sample,
     memory: M,
-    word_of_a: &[u16],
-    word_of_b: &[u16],
 ) -> anyhow::Result<()> {
-    match Rack::new(*plan, memory, 2) {
-        Ok(rack) => {
-            let mut rack = rack;
-            show_channels(rt, plan, &mut rack, word_of_a, word_of_b)
-        }
-        Err(Returned { memory: _, fault }) => {
-            println!(rt; "{}", fault.ground())?;
-            Ok(())
-        }
+    match Rack::new(sample.plan, memory, 2) {
+        Ok(mut rack) => show_channels(rt, sample, &mut rack),
+        Err(returned) => Ok(println!(rt; "{}", returned.fault.ground())?),
     }
+}
+
+fn word_of(plan: &Plan<Bits>, message: &[u16]) -> Result<[u16; 7], Ground> {
+    let mut word = [0; 7];
+    plan.encode(message, &mut word)
+        .map_err(|fault| fault.ground())?;
+    Ok(word)
+}
+
+fn prepare() -> Result<Sample, Ground> {
+    let plan = Plan::<Bits>::new(2, &MODULI).map_err(|fault| fault.ground())?;
+    let word_of_a = word_of(&plan, &[1, 1])?;
+    let word_of_b = word_of(&plan, &[0, 1])?;
+    Ok(Sample {
+        plan,
+        word_of_a,
+        word_of_b,
+    })
 }
 
 /// Two channels on one rack, over cells of a bit each.
-fn show_rack<R: Print>(rt: &R, plan: &Plan<Bits>, word_of_a: &[u16; 7]) -> anyhow::Result<()> {
+fn show_rack<R: Print>(rt: &R, sample: &Sample) -> anyhow::Result<()> {
     println!(rt; "Racks: two channels gather words side by side in the slots of one memory.")?;
-    let mut word_of_b = [0; 7];
-    match plan.encode(&[0, 1], &mut word_of_b) {
-        Ok(()) => {
-            let mut bytes = [0; 2];
-            show_slots(
-                rt,
-                plan,
-                PackedCells::new(&mut bytes),
-                word_of_a,
-                &word_of_b,
-            )
-        }
-        Err(fault) => {
-            println!(rt; "{}", fault.ground())?;
-            Ok(())
-        }
-    }
+    let mut bytes = [0; 2];
+    show_slots(rt, sample, PackedCells::new(&mut bytes))
 }
 
 fn channels<R: Print>(rt: &R) -> anyhow::Result<()> {
-    let plan = match Plan::<Bits>::new(2, &MODULI) {
-        Ok(plan) => plan,
-        Err(fault) => {
-            println!(rt; "{}", fault.ground())?;
-            return Ok(());
-        }
-    };
-    let mut word = [0; 7];
-    match plan.encode(&[1, 1], &mut word) {
-        Ok(()) => show_rack(rt, &plan, &word),
-        Err(fault) => {
-            println!(rt; "{}", fault.ground())?;
-            Ok(())
-        }
+    match prepare() {
+        Ok(sample) => show_rack(rt, &sample),
+        Err(ground) => Ok(println!(rt; "{ground}")?),
     }
 }
 

@@ -110,16 +110,10 @@ fn words_and_bytes_past_the_limit(rt: HostRuntime) -> Result<(), Fail> {
     ] {
         let mut words = vec![in rt.alloc(); 7; room]?;
         edges(&rt, &mut WordCells::new(words.as_mut_slice()), len, 65_535)?;
-        assert_eq!(rt;
-            words.get(len).copied(),
-            if len < room { Some(7) } else { None }
-        );
+        assert_eq!(rt; words.get(len).copied(), (len < room).then_some(7));
         let mut bytes = vec![in rt.alloc(); 7; room]?;
         edges(&rt, &mut ByteCells::new(bytes.as_mut_slice()), len, 255)?;
-        assert_eq!(rt;
-            bytes.get(len).copied(),
-            if len < room { Some(7) } else { None }
-        );
+        assert_eq!(rt; bytes.get(len).copied(), (len < room).then_some(7));
         edges(&rt, &mut Mirrored::new(rt.alloc(), room)?, len, 65_535)?;
     }
     Ok(())

@@ -1,5 +1,4 @@
-// Tests of plans at the edges of what is accepted, and of encoding. Refusals are compared by their grounds, which tell all
-// of them apart here: those of the two wrong lengths are alike but for the right length.
+// Tests of plans at the edges of what is accepted, and of encoding.
 use fault::{Fault, Ground, Layer};
 use field::{Bits, Bytes, Clock, Field};
 use plan::{EncodeFault, MODULUS_CODES, MOST_POSITIONS, MOST_TOTAL, Plan, PlanFault};
@@ -14,14 +13,18 @@ const BEFORE: u16 = 9;
 fn handed_in(heap: Global, moduli: &[&[u16]]) -> Result<Vec<u16>, AllocError> {
     let mut codes = Vec::new(heap);
     for modulus in moduli {
-        for place in 0..MODULUS_CODES {
-            codes.push(modulus.get(place).copied().unwrap_or(0))?;
+        for code in modulus
+            .iter()
+            .chain(&[0; MODULUS_CODES])
+            .take(MODULUS_CODES)
+        {
+            codes.push(*code)?;
         }
     }
     Ok(codes)
 }
 
-// Adds the modulus z^power + constant.
+// Adds the modulus z^power + constant. A place is a power, so that the loop counts what it compares.
 fn push_modulus(codes: &mut Vec<u16>, power: usize, constant: u16) -> Result<(), AllocError> {
     codes.push(constant)?;
     for place in 1..MODULUS_CODES {
@@ -39,33 +42,18 @@ fn powers_plus(heap: Global, power: usize, count: u16) -> Result<Vec<u16>, Alloc
     Ok(codes)
 }
 
-// The ground on which k and the moduli are refused.
-fn ground_against<F: Field>(carriers: usize, codes: &[u16]) -> Option<Ground> {
-    match Plan::<F>::new(carriers, codes) {
-        Ok(_) => None,
-        Err(fault) => Some(fault.ground()),
-    }
-}
-
 fn accepts<F: Field>(rt: &impl Abort, carriers: usize, codes: &[u16]) {
-    assert_eq!(rt; ground_against::<F>(carriers, codes), None);
+    assert_eq!(rt; Plan::<F>::new(carriers, codes).err(), None);
 }
 
 fn refuses<F: Field>(rt: &impl Abort, carriers: usize, codes: &[u16], fault: PlanFault) {
-    assert_eq!(rt; ground_against::<F>(carriers, codes), Some(fault.ground()));
-}
-
-fn accepted<F: Field>(carriers: usize, codes: &[u16]) -> Result<Plan<F>, Fail> {
-    match Plan::<F>::new(carriers, codes) {
-        Ok(plan) => Ok(plan),
-        Err(_) => Err(Fail::new("the plan is refused")),
-    }
+    assert_eq!(rt; Plan::<F>::new(carriers, codes).err(), Some(fault));
 }
 
 #[test]
 fn from_two_to_twenty_four_positions(rt: HostRuntime) -> Result<(), Fail> {
     let most = powers_plus(rt.alloc(), 1, 24)?;
-    let plan = accepted::<Clock>(23, &most)?;
+    let plan = Plan::<Clock>::new(23, &most)?;
     assert_eq!(rt; plan.positions(), MOST_POSITIONS);
     assert_eq!(rt; plan.message_length(), 23);
     refuses::<Clock>(&rt, 23, &powers_plus(rt.alloc(), 1, 25)?, PlanFault::Shape);
@@ -92,7 +80,7 @@ fn carriers_and_whole_groups(rt: HostRuntime) -> Result<(), Fail> {
 #[test]
 fn total_degree_at_most_sixty_four(rt: HostRuntime) -> Result<(), Fail> {
     let mut codes = powers_plus(rt.alloc(), 8, 8)?;
-    let plan = accepted::<Clock>(1, &codes)?;
+    let plan = Plan::<Clock>::new(1, &codes)?;
     assert_eq!(rt; plan.word_length(), MOST_TOTAL);
     assert_eq!(rt; plan.message_length(), 8);
     // z is one degree too many, which comes before the factor that it shares with z^8
@@ -107,6 +95,7 @@ fn total_degree_at_most_sixty_four(rt: HostRuntime) -> Result<(), Fail> {
 // z^8 + 3 has no root in the clock field, so that it can stand at any place among z, z + 1, ..
 #[test]
 fn degree_eight_at_each_position(rt: HostRuntime) -> Result<(), Fail> {
+    // By number, which is the constant of a modulus too.
     for position in 0..24u16 {
         let mut codes = Vec::new(rt.alloc());
         for i in 0..24u16 {
@@ -116,7 +105,7 @@ fn degree_eight_at_each_position(rt: HostRuntime) -> Result<(), Fail> {
                 push_modulus(&mut codes, 1, i)?;
             }
         }
-        let plan = accepted::<Clock>(1, &codes)?;
+        let plan = Plan::<Clock>::new(1, &codes)?;
         assert_eq!(rt; plan.degree(usize::from(position)), 8);
         assert_eq!(rt; plan.start(usize::from(position)), usize::from(position));
         assert_eq!(rt; plan.word_length(), 31);
@@ -180,7 +169,7 @@ fn factors_that_are_shared(rt: HostRuntime) -> Result<(), Fail> {
 // The plan of z, z + 1, z^2 + z + 1 and z^3 + z + 1 over bits.
 fn bit_plan(heap: Global) -> Result<Plan<Bits>, Fail> {
     let codes = handed_in(heap, &[&[0, 1], &[1, 1], &[1, 1, 1], &[1, 1, 0, 1]])?;
-    accepted::<Bits>(2, &codes)
+    Ok(Plan::<Bits>::new(2, &codes)?)
 }
 
 #[test]
@@ -190,7 +179,7 @@ fn words(rt: HostRuntime) -> Result<(), Fail> {
     assert!(rt; plan.encode(&[1, 1], &mut word).is_ok());
     assert_eq!(rt; word, [1, 0, 1, 1, 1, 1, 0]);
     let byte_codes = powers_plus(rt.alloc(), 1, 4)?;
-    let byte_plan = accepted::<Bytes>(2, &byte_codes)?;
+    let byte_plan = Plan::<Bytes>::new(2, &byte_codes)?;
     let mut values = [BEFORE; 4];
     assert!(rt; byte_plan.encode(&[1, 2], &mut values).is_ok());
     assert_eq!(rt; values, [1, 3, 5, 7]);
@@ -205,14 +194,8 @@ fn encode_refuses(
     buffer: &mut [u16],
     fault: EncodeFault,
 ) {
-    let ground = match plan.encode(message, buffer) {
-        Ok(()) => None,
-        Err(fault) => Some(fault.ground()),
-    };
-    assert_eq!(rt; ground, Some(fault.ground()));
-    for code in buffer.iter() {
-        assert_eq!(rt; *code, BEFORE);
-    }
+    assert_eq!(rt; plan.encode(message, buffer).err(), Some(fault));
+    assert!(rt; buffer.iter().all(|code| *code == BEFORE));
 }
 
 #[test]

@@ -1,16 +1,12 @@
 // Tests of the reader on the plans of the worked examples. The program `trials` draws many more.
+use crate::moduli::FOUR_OVER_BITS;
 use fault::{Fault, Ground, Layer};
 use field::{Bits, Bytes, Field};
 use plan::{MOST_POSITIONS, Plan};
 use reader::{Arrived, received};
+use std::array;
 use std::process::Abort;
 use std::test::Fail;
-
-// z, z + 1, z^2 + z + 1, z^3 + z + 1 over bits.
-const FOUR_OVER_BITS: [u16; 36] = [
-    0, 1, 0, 0, 0, 0, 0, 0, 0, 1, 1, 0, 0, 0, 0, 0, 0, 0, 1, 1, 1, 0, 0, 0, 0, 0, 0, 1, 1, 0, 1, 0,
-    0, 0, 0, 0,
-];
 
 // z, z + 1, z + 2, z + 3 over bytes.
 const FOUR_OVER_BYTES: [u16; 36] = [
@@ -21,13 +17,9 @@ const FOUR_OVER_BYTES: [u16; 36] = [
 // z^2 + z + 1 and z^2 + z over bits.
 const TWO_OVER_BITS: [u16; 18] = [1, 1, 1, 0, 0, 0, 0, 0, 0, 0, 1, 1, 0, 0, 0, 0, 0, 0];
 
-// Which positions are present: the first as they are told, and no other.
+// Which positions are present: the first as they are told, and no other. `received` takes a flag for each that a plan can have.
 fn presence(first: &[bool]) -> [bool; MOST_POSITIONS] {
-    let mut all = [false; MOST_POSITIONS];
-    for (entry, present) in all.iter_mut().zip(first.iter()) {
-        *entry = *present;
-    }
-    all
+    array::from_fn(|i| first.get(i).copied().unwrap_or(false))
 }
 
 // Reads the codes at the positions that are present, and compares the first two codes of the message and its margin.
@@ -44,14 +36,10 @@ fn reads<F: Field>(
         plan,
         residues: &residues,
     };
-    match arrived.read() {
-        Ok(reading) => {
-            assert_eq!(rt; [reading.message[0], reading.message[1]], message);
-            assert_eq!(rt; reading.margin, margin);
-            Ok(())
-        }
-        Err(_) => Err(Fail::new("it is refused")),
-    }
+    let reading = arrived.read()?;
+    assert_eq!(rt; [reading.message[0], reading.message[1]], message);
+    assert_eq!(rt; reading.margin, margin);
+    Ok(())
 }
 
 fn refuses<F: Field>(
@@ -61,39 +49,26 @@ fn refuses<F: Field>(
     present: &[bool],
     number: u8,
     second: usize,
-) -> Result<(), Fail> {
+) {
     let residues = received(plan, codes, &presence(present));
     let arrived = Arrived {
         plan,
         residues: &residues,
     };
-    match arrived.read() {
-        Ok(_) => Err(Fail::new("it is read")),
-        Err(fault) => {
-            assert_eq!(rt;
-                fault.ground(),
-                Ground {
-                    number,
-                    layer: Layer::Reader,
-                    first: 0,
-                    second,
-                }
-            );
-            Ok(())
-        },
-    }
-}
-
-fn plan_of<F: Field>(carriers: usize, moduli: &[u16]) -> Result<Plan<F>, Fail> {
-    match Plan::<F>::new(carriers, moduli) {
-        Ok(plan) => Ok(plan),
-        Err(_) => Err(Fail::new("no plan")),
-    }
+    assert_eq!(rt;
+        arrived.read().err().map(|fault| fault.ground()),
+        Some(Ground {
+            number,
+            layer: Layer::Reader,
+            first: 0,
+            second,
+        })
+    );
 }
 
 #[test]
 fn words_over_bits(rt: HostRuntime) -> Result<(), Fail> {
-    let plan = plan_of::<Bits>(2, &FOUR_OVER_BITS)?;
+    let plan = Plan::<Bits>::new(2, &FOUR_OVER_BITS)?;
     reads(
         &rt,
         &plan,
@@ -104,7 +79,7 @@ fn words_over_bits(rt: HostRuntime) -> Result<(), Fail> {
     )?;
     reads(&rt, &plan, &[1, 0], &[true, true], [1, 1], 0)?;
     reads(&rt, &plan, &[1, 0, 0, 0], &[true, true, true], [0, 0], 0)?;
-    refuses(&rt, &plan, &[0, 0], &[false, true], 18, 1)?;
+    refuses(&rt, &plan, &[0, 0], &[false, true], 18, 1);
     refuses(
         &rt,
         &plan,
@@ -112,9 +87,9 @@ fn words_over_bits(rt: HostRuntime) -> Result<(), Fail> {
         &[true, true, true, true],
         19,
         0,
-    )?;
-    let plan = plan_of::<Bits>(1, &TWO_OVER_BITS)?;
-    refuses(&rt, &plan, &[0, 0, 0, 1], &[true, true], 19, 0)?;
+    );
+    let plan = Plan::<Bits>::new(1, &TWO_OVER_BITS)?;
+    refuses(&rt, &plan, &[0, 0, 0, 1], &[true, true], 19, 0);
     let residues = received(&plan, &[0, 0, 0, 1], &presence(&[true, true]));
     let arrived = Arrived {
         plan: &plan,
@@ -126,7 +101,7 @@ fn words_over_bits(rt: HostRuntime) -> Result<(), Fail> {
 
 #[test]
 fn words_over_bytes(rt: HostRuntime) -> Result<(), Fail> {
-    let plan = plan_of::<Bytes>(2, &FOUR_OVER_BYTES)?;
+    let plan = Plan::<Bytes>::new(2, &FOUR_OVER_BYTES)?;
     reads(
         &rt,
         &plan,
@@ -144,7 +119,7 @@ fn words_over_bytes(rt: HostRuntime) -> Result<(), Fail> {
         [1, 2],
         0,
     )?;
-    refuses(&rt, &plan, &[1, 3, 0, 0], &[true, true, true, true], 19, 0)?;
+    refuses(&rt, &plan, &[1, 3, 0, 0], &[true, true, true, true], 19, 0);
     refuses(
         &rt,
         &plan,
@@ -152,5 +127,6 @@ fn words_over_bytes(rt: HostRuntime) -> Result<(), Fail> {
         &[true, true, true, true],
         19,
         0,
-    )
+    );
+    Ok(())
 }

@@ -4,8 +4,6 @@
 ghost use Rattle.lessons.specs.Lessons.{LessonExamples};
 
 #[cfg(test)]
-mod plans;
-#[cfg(test)]
 mod rack_tests;
 
 /// Its contract is the list of examples, each a statement about the definitions that the contracts cite.

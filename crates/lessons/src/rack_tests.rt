@@ -1,6 +1,6 @@
 // Tests of the rack, and of lists of calls, on the plan of four moduli over bits: a word has 7 codes and a message 2.
-use crate::plans::{FOUR_OVER_BITS, plan_of};
 use batch::{Entry, Loading, load, load_pair};
+use examples::FOUR_OVER_BITS;
 use fault::{Fault, Ground, Layer};
 use field::{Bits, Clock, Field};
 use memory::{ByteCells, Memory, PackedCells, Returned, WordCells};
@@ -19,10 +19,8 @@ const TWO_OVER_CLOCK: [u16; 18] = [0, 1, 0, 0, 0, 0, 0, 0, 0, 1, 1, 0, 0, 0, 0, 
 
 // What makes a rack is generic in its memory: where the type of a lent buffer is named, the borrow checker does not cover it.
 fn rack_over<M: Memory + Drop>(memory: M, slots: usize) -> Result<Rack<Bits, M>, Fail> {
-    match Rack::new(plan_of::<Bits>(2, &FOUR_OVER_BITS)?, memory, slots) {
-        Ok(rack) => Ok(rack),
-        Err(_) => Err(Fail::new("no rack")),
-    }
+    let plan = Plan::<Bits>::new(2, &FOUR_OVER_BITS)?;
+    Rack::new(plan, memory, slots).map_err(|_| Fail::new("no rack"))
 }
 
 // Opens the slot, and puts the word of 1 1 there.
@@ -58,43 +56,37 @@ fn refused<T: Drop>(
     number: u8,
     first: usize,
     second: usize,
-) -> Result<(), Fail> {
+) {
     let layer = if number < 18 {
         Layer::Rack
     } else {
         Layer::Reader
     };
-    match res {
-        Ok(_) => Err(Fail::new("it is accepted")),
-        Err(fault) => {
-            assert_eq!(rt;
-                fault.ground(),
-                Ground {
-                    number,
-                    layer,
-                    first,
-                    second,
-                }
-            );
-            Ok(())
-        },
-    }
+    assert_eq!(rt;
+        res.err().map(|fault| fault.ground()),
+        Some(Ground {
+            number,
+            layer,
+            first,
+            second,
+        })
+    );
 }
 
 // Grounds 10 to 14, with slot 1 of two. A refused call leaves what is there.
 fn whose_slot<M: Memory>(rt: &impl Abort, rack: &mut Rack<Bits, M>) -> Result<(), Fail> {
-    refused(rt, rack.open(2, 2), 10, 0, 0)?;
-    refused(rt, rack.open(0, 2), 11, 2, 0)?;
-    refused(rt, rack.put(0, 1, 0, &[1]), 12, 1, 0)?;
+    refused(rt, rack.open(2, 2), 10, 0, 0);
+    refused(rt, rack.open(0, 2), 11, 2, 0);
+    refused(rt, rack.put(0, 1, 0, &[1]), 12, 1, 0);
     fill(rack, 0, 1)?;
-    refused(rt, rack.open(0, 1), 13, 1, 0)?;
-    refused(rt, rack.open(1, 1), 13, 1, 0)?;
-    refused(rt, rack.put(1, 1, 0, &[0]), 14, 1, 0)?;
-    refused(rt, rack.strike(1, 1, 0), 14, 1, 0)?;
-    refused(rt, rack.close(1, 1), 14, 1, 0)?;
+    refused(rt, rack.open(0, 1), 13, 1, 0);
+    refused(rt, rack.open(1, 1), 13, 1, 0);
+    refused(rt, rack.put(1, 1, 0, &[0]), 14, 1, 0);
+    refused(rt, rack.strike(1, 1, 0), 14, 1, 0);
+    refused(rt, rack.close(1, 1), 14, 1, 0);
     reads(rt, rack, 0, 1, 5, 0)?;
     rack.close(0, 1)?;
-    refused(rt, rack.close(0, 1), 12, 1, 0)?;
+    refused(rt, rack.close(0, 1), 12, 1, 0);
     // it opens empty again
     rack.open(1, 1)?;
     assert_eq!(rt; rack.measure(1, 1, &[1, 1])?, -2);
@@ -104,15 +96,15 @@ fn whose_slot<M: Memory>(rt: &impl Abort, rack: &mut Rack<Bits, M>) -> Result<()
 // Grounds 15 to 17, in slot 0. A refused call leaves what is there, and the buffer too.
 fn what_is_given<M: Memory>(rt: &impl Abort, rack: &mut Rack<Bits, M>) -> Result<(), Fail> {
     fill(rack, 1, 0)?;
-    refused(rt, rack.put(1, 0, 4, &[1]), 15, 0, 4)?;
-    refused(rt, rack.strike(1, 0, 4), 15, 0, 4)?;
-    refused(rt, rack.put(1, 0, 2, &[2]), 16, 0, 2)?;
-    refused(rt, rack.measure(1, 0, &[1, 1, 1]), 16, 0, 2)?;
-    refused(rt, rack.put(1, 0, 3, &[0, 2, 3]), 17, 0, 1)?;
-    refused(rt, rack.measure(1, 0, &[0, 2]), 17, 0, 1)?;
+    refused(rt, rack.put(1, 0, 4, &[1]), 15, 0, 4);
+    refused(rt, rack.strike(1, 0, 4), 15, 0, 4);
+    refused(rt, rack.put(1, 0, 2, &[2]), 16, 0, 2);
+    refused(rt, rack.measure(1, 0, &[1, 1, 1]), 16, 0, 2);
+    refused(rt, rack.put(1, 0, 3, &[0, 2, 3]), 17, 0, 1);
+    refused(rt, rack.measure(1, 0, &[0, 2]), 17, 0, 1);
     reads(rt, rack, 1, 0, 5, 0)?;
     let mut short = [9];
-    refused(rt, rack.read(1, 0, &mut short), 16, 0, 2)?;
+    refused(rt, rack.read(1, 0, &mut short), 16, 0, 2);
     assert_eq!(rt; short, [9]);
     Ok(())
 }
@@ -123,10 +115,10 @@ fn no_message<M: Memory>(rt: &impl Abort, rack: &mut Rack<Bits, M>) -> Result<()
     rack.close(1, 0)?;
     rack.open(0, 0)?;
     rack.put(0, 0, 1, &[0])?;
-    refused(rt, rack.read(0, 0, &mut buffer), 18, 0, 1)?;
+    refused(rt, rack.read(0, 0, &mut buffer), 18, 0, 1);
     rack.put(0, 0, 0, &[1])?;
     rack.put(0, 0, 2, &[0, 1])?;
-    refused(rt, rack.read(0, 0, &mut buffer), 19, 0, 0)?;
+    refused(rt, rack.read(0, 0, &mut buffer), 19, 0, 0);
     assert_eq!(rt; buffer, [9, 9]);
     rack.strike(0, 0, 2)?;
     reads(rt, rack, 0, 0, 0, 0)
@@ -155,21 +147,19 @@ fn not_made<F: Field, M: Memory + Drop>(
     memory: M,
     slots: usize,
 ) -> Result<M, Fail> {
-    match Rack::new(plan, memory, slots) {
-        Ok(_) => Err(Fail::new("it fits")),
-        Err(Returned { memory, fault }) => {
-            assert_eq!(rt;
-                fault.ground(),
-                Ground {
-                    number: 9,
-                    layer: Layer::Memory,
-                    first: 0,
-                    second: 0,
-                }
-            );
-            Ok(memory)
+    let Err(Returned { memory, fault }) = Rack::new(plan, memory, slots) else {
+        return Err(Fail::new("it fits"));
+    };
+    assert_eq!(rt;
+        fault.ground(),
+        Ground {
+            number: 9,
+            layer: Layer::Memory,
+            first: 0,
+            second: 0,
         }
-    }
+    );
+    Ok(memory)
 }
 
 // Makes a rack, and takes it apart again.
@@ -179,7 +169,7 @@ fn made<M: Memory + Drop>(memory: M, slots: usize) -> Result<M, Fail> {
 
 #[test]
 fn what_fits(rt: HostRuntime) -> Result<(), Fail> {
-    let plan = plan_of::<Bits>(2, &FOUR_OVER_BITS)?;
+    let plan = Plan::<Bits>::new(2, &FOUR_OVER_BITS)?;
     let mut words = [5; 119];
     let memory = not_made(&rt, plan, WordCells::new(&mut words), 0)?;
     let memory = not_made(&rt, plan, memory, 17)?;
@@ -190,7 +180,7 @@ fn what_fits(rt: HostRuntime) -> Result<(), Fail> {
     let memory = not_made(&rt, plan, WordCells::new(&mut words), 2)?;
     assert_eq!(rt; made(memory, 1)?.get(12), Some(5));
     // the clock has 257 codes, and a byte 256 numbers
-    let plan = plan_of::<Clock>(1, &TWO_OVER_CLOCK)?;
+    let plan = Plan::<Clock>::new(1, &TWO_OVER_CLOCK)?;
     let mut bytes = [7; 2];
     let memory = not_made(&rt, plan, ByteCells::new(&mut bytes), 1)?;
     assert_eq!(rt; memory.get(1), Some(7));
@@ -255,10 +245,7 @@ fn call_of(heap: Global, line: Line) -> Result<Call, AllocError> {
 fn sheet_of(heap: Global, lines: &[Line]) -> Result<Vec<Entry>, AllocError> {
     let mut sheet = Vec::new(heap);
     for line in lines {
-        sheet.push(Entry {
-            call: call_of(heap, *line)?,
-            outcome: None,
-        })?;
+        sheet.push(Entry::new(call_of(heap, *line)?))?;
     }
     Ok(sheet)
 }
@@ -294,19 +281,17 @@ fn runs_on<M: Memory + Drop>(
     memory: M,
     slots: usize,
     sheet: &mut [Entry],
-) -> Result<Option<M>, Fail> {
+) -> Option<M> {
     let loading = Loading {
         entries: sheet,
         memory,
         slots,
     };
-    match load::<Bits, M>(2, &FOUR_OVER_BITS, loading) {
-        Ok(_) => Ok(None),
-        Err(Returned { memory, fault }) => {
-            assert_eq!(rt; fault.ground().number, 9);
-            Ok(Some(memory))
-        }
-    }
+    let Err(Returned { memory, fault }) = load::<Bits, M>(2, &FOUR_OVER_BITS, loading) else {
+        return None;
+    };
+    assert_eq!(rt; fault.ground().number, 9);
+    Some(memory)
 }
 
 #[test]
@@ -328,7 +313,7 @@ fn bench_sheet(rt: HostRuntime) -> Result<(), Fail> {
     let Ok(layer) = Spread::new(WordCells::new(&mut words), 7) else {
         return Err(Fail::new("depth 7 was refused"));
     };
-    assert!(rt; runs_on(&rt, layer, 4, sheet.as_mut_slice())?.is_none());
+    assert!(rt; runs_on(&rt, layer, 4, sheet.as_mut_slice()).is_none());
     told(
         &rt,
         rt.alloc(),
@@ -350,10 +335,10 @@ fn bench_sheet(rt: HostRuntime) -> Result<(), Fail> {
 fn list_not_run(rt: HostRuntime) -> Result<(), Fail> {
     let mut sheet = sheet_of(rt.alloc(), &[Line::Open(0, 0)])?;
     let mut words = [5; 27];
-    match runs_on(&rt, WordCells::new(&mut words), 4, sheet.as_mut_slice())? {
-        None => return Err(Fail::new("it fits")),
-        Some(memory) => assert_eq!(rt; memory.get(26), Some(5)),
-    }
+    let Some(memory) = runs_on(&rt, WordCells::new(&mut words), 4, sheet.as_mut_slice()) else {
+        return Err(Fail::new("it fits"));
+    };
+    assert_eq!(rt; memory.get(26), Some(5));
     told(&rt, rt.alloc(), sheet.as_slice(), &["not run"])
 }
 

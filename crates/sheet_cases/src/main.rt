@@ -10,7 +10,7 @@ use rack::Call;
 use sheet::{Sheet, read_sheet};
 use std::fmt;
 
-/// A digit of base sixteen.
+/// A digit of base sixteen. By hand, since `to_digit` takes large letters too.
 fn sixteenth(digit: u8) -> anyhow::Result<u8>
     ensures { IfOk result (λ value. value < 16) }
 {
@@ -33,7 +33,7 @@ fn bytes_of(rt: &HostRuntime, line: &str) -> anyhow::Result<Vec<u8>> {
     Ok(bytes)
 }
 
-/// Numbers, each after a blank.
+/// Numbers, each after a blank. The programs that show numbers so have one each, since none stands on another.
 #[derive(Clone, Copy)]
 struct Numbers<'a>(&'a [u16]);
 

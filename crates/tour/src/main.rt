@@ -3,10 +3,11 @@
 
 ghost use Rattle.std.specs.Prelude.{◌≡◌, ◌<◌};
 
-use fault::Fault;
+use fault::{Fault, Ground};
 use field::{Bits, Bytes, Clock, Field};
 use plan::{MOST_POSITIONS, Plan};
 use reader::{Arrived, received};
+use std::fmt;
 
 /// Solves gain · x + offset = level, where the gain is a code other than 0 and the others are codes.
 fn solve<F: Field>(gain: u16, offset: u16, level: u16) -> u16
@@ -33,98 +34,115 @@ fn show_field<F: Field, R: Print>(
     Ok(())
 }
 
-// Over bits: z, z + 1, z^2 + z + 1 and z^3 + z + 1, nine codes each, lowest power first.
+// Over bits: z, z + 1, z^2 + z + 1 and z^3 + z + 1, nine codes each, lowest power first. The table stands in `channels` and in
+// the tests too: a program does not stand on another, nor on the tests.
 const MODULI: [u16; 36] = [
     0, 1, 0, 0, 0, 0, 0, 0, 0, 1, 1, 0, 0, 0, 0, 0, 0, 0, 1, 1, 1, 0, 0, 0, 0, 0, 0, 1, 1, 0, 1, 0,
     0, 0, 0, 0,
 ];
 
-/// Whether a position other than the first starts at this code of a word.
-fn begins_position<F: Field>(plan: &Plan<F>, place: usize) -> bool {
-    for i in 1..plan.positions() {
-        if plan.start(i) == place {
-            return true;
-        }
-    }
-    false
+/// A word of a plan, shown with a bar between positions.
+#[derive(Clone, Copy)]
+struct Word<'a> {
+    plan: &'a Plan<Bits>,
+    codes: &'a [u16],
 }
 
-/// Prints a word, a bar between positions.
-fn show_word<F: Field, R: Print>(rt: &R, plan: &Plan<F>, word: &[u16]) -> anyhow::Result<()> {
-    for (place, code) in word.iter().enumerate() {
-        if begins_position(plan, place) {
-            print!(rt; "|")?;
-        } else if place > 0 {
-            print!(rt; " ")?;
-        }
-        print!(rt; "{code}")?;
+impl<'a> Word<'a> {
+    /// Whether a position other than the first starts at this code.
+    fn begins_position(&self, place: usize) -> bool {
+        (1..self.plan.positions()).any(|i| self.plan.start(i) == place)
     }
-    println!(rt; "")?;
-    Ok(())
+}
+
+impl<'a> fmt::Display for Word<'a> {
+    fn fmt<W: fmt::Write>(&self, f: &mut fmt::Formatter<W>) -> fmt::Result {
+        for (place, code) in self.codes.iter().enumerate() {
+            if self.begins_position(place) {
+                f.write_str("|")?;
+            } else if place > 0 {
+                f.write_str(" ")?;
+            }
+            write!(f, "{code}")?;
+        }
+        Ok(())
+    }
+}
+
+/// Numbers, each after a blank. The programs that show numbers so have one each, since none stands on another.
+#[derive(Clone, Copy)]
+struct Numbers<'a>(&'a [u16]);
+
+impl<'a> fmt::Display for Numbers<'a> {
+    fn fmt<W: fmt::Write>(&self, f: &mut fmt::Formatter<W>) -> fmt::Result {
+        for number in self.0 {
+            write!(f, " {number}")?;
+        }
+        Ok(())
+    }
 }
 
 /// Reads what has arrived, and says what came of it.
-fn show_reading<F: Field, R: Print>(
+fn show_reading<R: Print>(
     rt: &R,
-    plan: &Plan<F>,
-    word: &[u16],
-    present: &[bool; MOST_POSITIONS],
+    plan: &Plan<Bits>,
+    residues: &[Option<&[u16]>],
 ) -> anyhow::Result<()> {
-    let residues = received(plan, word, present);
-    let arrived = Arrived {
-        plan,
-        residues: &residues,
-    };
+    let arrived = Arrived { plan, residues };
     match arrived.read() {
         Ok(reading) => {
-            print!(rt; "    reads")?;
-            for code in reading.codes(plan) {
-                print!(rt; " {code}")?;
-            }
+            let message = Numbers(reading.codes(plan));
             let margin = reading.margin;
             let wrong = reading.wrong;
-            println!(rt; ", with margin {margin}, wrong positions of degree {wrong} in all.")?;
+            println!(rt;
+                "    reads{message}, with margin {margin}, wrong positions of degree {wrong} in all."
+            )?;
         }
-        Err(fault) => {
-            println!(rt; "    is refused: {}", fault.ground())?;
-        }
+        Err(fault) => println!(rt; "    is refused: {}", fault.ground())?,
     }
     Ok(())
 }
 
-/// Damages the word and strikes a position, within the allowance and past it.
+/// Reads the word with damaged and with missing positions, within the allowance and past it.
 fn show_damage<R: Print>(rt: &R, plan: &Plan<Bits>, word: &[u16; 7]) -> anyhow::Result<()> {
     println!(rt; "Reading: the one message within the allowance, or none.")?;
-    let mut damaged = *word;
-    let mut present = [true; MOST_POSITIONS];
-    damaged[0] = 0;
-    present[3] = false;
     println!(rt;
         "  The word with its first code turned and its last position missing, 0|0|1 1|–,"
     )?;
-    show_reading(rt, plan, &damaged, &present)?;
-    damaged[0] = 1;
-    present[3] = true;
-    damaged[4] = 0;
-    damaged[5] = 0;
+    let mut damaged = *word;
+    damaged[0] = 0;
+    let mut present = [true; MOST_POSITIONS];
+    present[3] = false;
+    show_reading(rt, plan, &received(plan, &damaged, &present))?;
     println!(rt; "  The word with its last position turned to zeros, 1|0|1 1|0 0 0,")?;
-    show_reading(rt, plan, &damaged, &present)?;
+    let mut damaged = *word;
+    damaged[4..7].fill(0);
+    let present = [true; MOST_POSITIONS];
+    show_reading(rt, plan, &received(plan, &damaged, &present))?;
+    println!(rt; "  One position of the four, –|0|–|–,")?;
     let mut present = [false; MOST_POSITIONS];
     present[1] = true;
-    println!(rt; "  One position of the four, –|0|–|–,")?;
-    show_reading(rt, plan, &damaged, &present)
+    show_reading(rt, plan, &received(plan, word, &present))
 }
 
-/// Makes a plan, encodes a message under it, and reads it back.
-fn show_plan<R: Print>(rt: &R) -> anyhow::Result<()> {
-    println!(rt; "Plans: a message is carried as its remainders by moduli that share no factor.")?;
-    let plan = match Plan::<Bits>::new(2, &MODULI) {
-        Ok(plan) => plan,
-        Err(fault) => {
-            println!(rt; "{}", fault.ground())?;
-            return Ok(());
-        }
-    };
+/// A plan, and the word of the message 1 1 under it. `channels` makes its own, since a program does not stand on another.
+#[derive(Drop)]
+struct Sample {
+    plan: Plan<Bits>,
+    word: [u16; 7],
+}
+
+fn prepare() -> Result<Sample, Ground> {
+    let plan = Plan::<Bits>::new(2, &MODULI).map_err(|fault| fault.ground())?;
+    let mut word = [0; 7];
+    plan.encode(&[1, 1], &mut word)
+        .map_err(|fault| fault.ground())?;
+    Ok(Sample { plan, word })
+}
+
+/// Says what a plan is made of, what it makes of a message, and how the word is read back.
+fn show_sample<R: Print>(rt: &R, sample: &Sample) -> anyhow::Result<()> {
+    let plan = &sample.plan;
     let positions = plan.positions();
     let carriers = plan.carriers();
     println!(rt;
@@ -133,18 +151,20 @@ fn show_plan<R: Print>(rt: &R) -> anyhow::Result<()> {
     let message_length = plan.message_length();
     let word_length = plan.word_length();
     println!(rt; "  a message has {message_length} codes and its word {word_length}.")?;
-    let mut word = [0; 7];
-    match plan.encode(&[1, 1], &mut word) {
-        Ok(()) => {
-            print!(rt; "  The message 1 1, the polynomial 1 + z, has the word ")?;
-            show_word(rt, &plan, &word)?;
-            show_refusal(rt)?;
-            show_damage(rt, &plan, &word)
-        }
-        Err(fault) => {
-            println!(rt; "{}", fault.ground())?;
-            Ok(())
-        }
+    let word = Word {
+        plan,
+        codes: &sample.word,
+    };
+    println!(rt; "  The message 1 1, the polynomial 1 + z, has the word {word}")?;
+    show_refusal(rt)?;
+    show_damage(rt, plan, &sample.word)
+}
+
+fn show_plan<R: Print>(rt: &R) -> anyhow::Result<()> {
+    println!(rt; "Plans: a message is carried as its remainders by moduli that share no factor.")?;
+    match prepare() {
+        Ok(sample) => show_sample(rt, &sample),
+        Err(ground) => Ok(println!(rt; "{ground}")?),
     }
 }
 

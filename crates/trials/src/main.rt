@@ -3,12 +3,13 @@
 // The draws are fixed, so the counts are too.
 #![tactic(auto)]
 
+ghost use Rattle.std.specs.Prelude.{◌<◌};
+
 use field::{Bits, Bytes, Clock, Field};
 use plan::{MODULUS_CODES, MOST_POSITIONS, Plan};
-use reader::{Arrived, MESSAGE_TABLE, received};
-
-/// Enough for the moduli of `MOST_DRAWN` positions.
-const CODES: usize = 54;
+use reader::{Arrived, ReaderFault, Reading, received};
+use std::alloc::{AllocError, Global};
+use std::array;
 
 /// Words of two to six positions are drawn.
 const MOST_DRAWN: u16 = 6;
@@ -24,7 +25,9 @@ struct Draws {
 
 impl Draws {
     /// A number below the bound; 0 where there is none.
-    fn below(&mut self, bound: u16) -> u16 {
+    fn below(&mut self, bound: u16) -> u16
+        ensures { 0 < bound → result < bound }
+    {
         self.state = self
             .state
             .wrapping_mul(6364136223846793005)
@@ -41,7 +44,7 @@ impl Draws {
 }
 
 /// What came of the trials.
-#[derive(Clone, Copy)]
+#[derive(Clone, Copy, Default)]
 struct Counts {
     plans: u32,
     no_plans: u32,
@@ -54,158 +57,195 @@ struct Counts {
     search_differs: u32,
 }
 
+// Saturating, so that no proof has to bound how often each thing happens.
 fn more(count: &mut u32) {
     *count = count.saturating_add(1);
 }
 
-/// Moduli of degree 1 to 4 with leading code 1.
-fn draw_moduli<F: Field>(draws: &mut Draws, positions: usize) -> [u16; CODES] {
-    let mut codes = [0; CODES];
-    for i in 0..positions {
-        let degree = 1 + draws.below(4) as usize;
-        for power in 0..degree {
-            let at = i.saturating_mul(MODULUS_CODES).saturating_add(power);
-            if at < CODES {
-                codes[at] = draws.below(F::ORDER);
-            }
-        }
-        let at = i.saturating_mul(MODULUS_CODES).saturating_add(degree);
-        if at < CODES {
-            codes[at] = 1;
-        }
-    }
-    codes
+/// What came of one reading.
+#[derive(Clone, Copy)]
+enum Outcome {
+    Read,
+    Missed,
+    Refused,
+    Other,
+    FalseOther,
 }
 
-/// Changes a code of some positions, now and then to a number that is no code.
-fn damage<F: Field>(plan: &Plan<F>, draws: &mut Draws, word: &mut [u16; MESSAGE_TABLE]) {
+impl Counts {
+    fn count(&mut self, outcome: Outcome) {
+        more(match outcome {
+            Outcome::Read => &mut self.read,
+            Outcome::Missed => &mut self.missed,
+            Outcome::Refused => &mut self.refused,
+            Outcome::Other => &mut self.other,
+            Outcome::FalseOther => &mut self.false_other,
+        });
+    }
+}
+
+/// A modulus of degree 1 to 4 with leading code 1.
+fn draw_modulus<F: Field>(draws: &mut Draws) -> [u16; MODULUS_CODES] {
+    let mut modulus = [0; MODULUS_CODES];
+    let degree = 1 + draws.below(4) as usize;
+    for code in modulus.iter_mut().take(degree) {
+        *code = draws.below(F::ORDER);
+    }
+    modulus[degree] = 1;
+    modulus
+}
+
+fn draw_moduli<F: Field>(
+    heap: Global,
+    draws: &mut Draws,
+    positions: u16,
+) -> Result<Vec<u16>, AllocError> {
+    let mut codes = Vec::new(heap);
+    for _ in 0..positions {
+        codes.extend_from_slice(&draw_modulus::<F>(draws))?;
+    }
+    Ok(codes)
+}
+
+fn draw_message<F: Field>(
+    heap: Global,
+    draws: &mut Draws,
+    length: usize,
+) -> Result<Vec<u16>, AllocError> {
+    let mut message = vec![in heap; 0; length]?;
+    for code in message.iter_mut() {
+        *code = draws.below(F::ORDER);
+    }
+    Ok(message)
+}
+
+/// Changes a code of some positions, now and then to a number that is no code. By position: where it starts goes by its number.
+fn damage<F: Field>(plan: &Plan<F>, draws: &mut Draws, word: &mut [u16]) {
     for i in 0..plan.positions() {
         if draws.one_in(4) {
-            let at = plan.start(i);
-            if at < MESSAGE_TABLE {
-                word[at] = if draws.one_in(5) {
+            if let Some(code) = word.get_mut(plan.start(i)) {
+                *code = if draws.one_in(5) {
                     F::ORDER
                 } else {
-                    F::sum(word[at], 1)
+                    F::sum(*code, 1)
                 };
             }
         }
     }
 }
 
-/// Calls some positions missing.
+/// Calls some positions missing; the others are present. `received` takes a flag for each position that a plan can have.
 fn strike(draws: &mut Draws) -> [bool; MOST_POSITIONS] {
-    let mut present = [true; MOST_POSITIONS];
-    for position in present.iter_mut() {
-        if draws.one_in(5) {
-            *position = false;
-        }
-    }
-    present
+    array::from_fn(|_| !draws.one_in(5))
 }
 
 /// The message whose codes are the digits of a number in base q.
-fn message_number<F: Field>(mut number: u64, length: usize) -> [u16; MESSAGE_TABLE] {
+fn message_number<F: Field>(
+    heap: Global,
+    mut number: u64,
+    length: usize,
+) -> Result<Vec<u16>, AllocError> {
     let order = F::ORDER as u64;
-    let mut message = [0; MESSAGE_TABLE];
-    for code in message.iter_mut().take(length) {
+    let mut message = vec![in heap; 0; length]?;
+    for code in message.iter_mut() {
         *code = (number % order) as u16;
         number /= order;
     }
-    message
+    Ok(message)
 }
 
-/// How many messages there are, or more than are searched.
-fn messages<F: Field>(length: usize) -> u64 {
-    let mut count = 1u64;
-    for _ in 0..length {
-        count = count.saturating_mul(F::ORDER as u64);
-    }
-    count
+/// How many messages there are, as far as a `u64` counts.
+fn messages<F: Field>(plan: &Plan<F>) -> u64 {
+    (0..plan.message_length()).fold(1u64, |count, _| count.saturating_mul(F::ORDER as u64))
 }
 
-/// The margin of the only message within the allowance, by trying all of them; none where there is none or more than one.
-fn search<F: Field>(arrived: &Arrived<F>) -> (u32, u64) {
-    let length = arrived.plan.message_length().min(MESSAGE_TABLE);
-    let mut found = 0u32;
-    let mut which = 0u64;
-    for number in 0..messages::<F>(length).min(MOST_SEARCHED) {
-        let message = message_number::<F>(number, length);
-        if arrived.measure(&message[0..length]) >= 0 {
-            more(&mut found);
-            which = number;
+/// The messages within the allowance, by trying all of them.
+fn search<F: Field>(heap: Global, arrived: &Arrived<F>) -> Result<Vec<Vec<u16>>, AllocError> {
+    let mut found = Vec::new(heap);
+    for number in 0..messages(arrived.plan) {
+        let message = message_number::<F>(heap, number, arrived.plan.message_length())?;
+        if arrived.measure(&message) >= 0 {
+            found.push(message)?;
         }
     }
-    (found, which)
+    Ok(found)
 }
 
-/// Holds one reading against the message that was sent, and against the search where that is short.
-fn judge<F: Field>(arrived: &Arrived<F>, sent: &[u16], counts: &mut Counts) {
-    let length = arrived.plan.message_length().min(MESSAGE_TABLE);
+/// Holds one reading against the message that was sent.
+fn judge<F: Field>(
+    arrived: &Arrived<F>,
+    sent: &[u16],
+    answer: &Result<Reading, ReaderFault>,
+) -> Outcome {
     let margin = arrived.measure(sent);
-    let short = messages::<F>(length) <= MOST_SEARCHED;
-    let (found, which) = if short { search(arrived) } else { (0, 0) };
-    if short {
-        more(&mut counts.searched);
-    }
-    match arrived.read() {
+    match answer {
+        Ok(reading) if margin >= 0 => {
+            if reading.codes(arrived.plan) == sent && reading.margin == margin {
+                Outcome::Read
+            } else {
+                Outcome::Missed
+            }
+        }
         Ok(reading) => {
-            let message = reading.codes(arrived.plan);
-            if margin >= 0 && message == sent && reading.margin == margin {
-                more(&mut counts.read);
-            } else if margin >= 0 {
-                more(&mut counts.missed);
-            } else if reading.margin >= 0 && arrived.measure(message) == reading.margin {
-                more(&mut counts.other);
+            let own = arrived.measure(reading.codes(arrived.plan));
+            if reading.margin >= 0 && own == reading.margin {
+                Outcome::Other
             } else {
-                more(&mut counts.false_other);
-            }
-            let only = message_number::<F>(which, length);
-            if short && (found != 1 || message != &only[0..length]) {
-                more(&mut counts.search_differs);
+                Outcome::FalseOther
             }
         }
-        Err(_) => {
-            if margin >= 0 {
-                more(&mut counts.missed);
-            } else {
-                more(&mut counts.refused);
-            }
-            if short && found != 0 {
-                more(&mut counts.search_differs);
-            }
+        Err(_) if margin >= 0 => Outcome::Missed,
+        Err(_) => Outcome::Refused,
+    }
+}
+
+/// Whether a search finds just what was read.
+fn is_found<F: Field>(
+    plan: &Plan<F>,
+    found: &[Vec<u16>],
+    answer: &Result<Reading, ReaderFault>,
+) -> bool {
+    match (found, answer) {
+        ([], Err(_)) => true,
+        ([only], Ok(reading)) => only.as_slice() == reading.codes(plan),
+        _ => false,
+    }
+}
+
+/// Reads what has arrived, and holds it against the message that was sent and against the search where that is short.
+fn read<F: Field>(
+    heap: Global,
+    arrived: &Arrived<F>,
+    sent: &[u16],
+    counts: &mut Counts,
+) -> Result<(), AllocError> {
+    let answer = arrived.read();
+    counts.count(judge(arrived, sent, &answer));
+    if messages(arrived.plan) <= MOST_SEARCHED {
+        more(&mut counts.searched);
+        if !is_found(arrived.plan, &search(heap, arrived)?, &answer) {
+            more(&mut counts.search_differs);
         }
     }
+    Ok(())
 }
 
 /// One plan, one message, one damaged word.
-fn trial<F: Field>(draws: &mut Draws, counts: &mut Counts) {
+fn trial<F: Field>(heap: Global, draws: &mut Draws, counts: &mut Counts) -> Result<(), AllocError> {
     let extra = draws.below(MOST_DRAWN - 1);
-    let positions = 2 + extra as usize;
+    let positions = extra.saturating_add(2);
     let carriers = 1 + draws.below(extra.saturating_add(1)) as usize;
-    let codes = draw_moduli::<F>(draws, positions);
-    let length = (positions * MODULUS_CODES).min(CODES);
-    let plan = match Plan::<F>::new(carriers, &codes[0..length]) {
-        Ok(plan) => plan,
-        Err(_) => {
-            more(&mut counts.no_plans);
-            return;
-        }
+    let codes = draw_moduli::<F>(heap, draws, positions)?;
+    let Ok(plan) = Plan::<F>::new(carriers, &codes) else {
+        more(&mut counts.no_plans);
+        return Ok(());
     };
     more(&mut counts.plans);
-    let message_length = plan.message_length().min(MESSAGE_TABLE);
-    let word_length = plan.word_length().min(MESSAGE_TABLE);
-    let mut message = [0; MESSAGE_TABLE];
-    for code in message.iter_mut().take(message_length) {
-        *code = draws.below(F::ORDER);
-    }
-    let mut word = [0; MESSAGE_TABLE];
-    if plan
-        .encode(&message[0..message_length], &mut word[0..word_length])
-        .is_err()
-    {
+    let message = draw_message::<F>(heap, draws, plan.message_length())?;
+    let mut word = vec![in heap; 0; plan.word_length()]?;
+    if plan.encode(&message, &mut word).is_err() {
         more(&mut counts.missed);
-        return;
+        return Ok(());
     }
     damage(&plan, draws, &mut word);
     let residues = received(&plan, &word, &strike(draws));
@@ -213,24 +253,14 @@ fn trial<F: Field>(draws: &mut Draws, counts: &mut Counts) {
         plan: &plan,
         residues: &residues,
     };
-    judge(&arrived, &message[0..message_length], counts);
+    read(heap, &arrived, &message, counts)
 }
 
-fn run<F: Field, R: Print>(rt: &R, name: &str, trials: u32) -> anyhow::Result<()> {
+fn run<F: Field, R: Print + AllocGlobal>(rt: &R, name: &str, trials: u32) -> anyhow::Result<()> {
     let mut draws = Draws { state: 2026 };
-    let mut counts = Counts {
-        plans: 0,
-        no_plans: 0,
-        read: 0,
-        missed: 0,
-        refused: 0,
-        other: 0,
-        false_other: 0,
-        searched: 0,
-        search_differs: 0,
-    };
+    let mut counts = Counts::default();
     for _ in 0..trials {
-        trial::<F>(&mut draws, &mut counts);
+        trial::<F>(rt.alloc(), &mut draws, &mut counts)?;
     }
     println!(rt;
         "{name}: {} plans, {} refused",

@@ -2,10 +2,10 @@
 // input: the field's name, the operation, its numbers, and the answer.
 #![tactic(auto)]
 
-use anyhow::anyhow;
+use anyhow::{Context, anyhow};
 use field::{Bytes, Clock, Field};
 
-#[derive(Clone, Copy)]
+#[derive(Clone, Copy, Default)]
 struct Tally {
     agree: u32,
     differ: u32,
@@ -22,10 +22,7 @@ impl Tally {
 }
 
 fn number(word: Option<&str>) -> anyhow::Result<u16> {
-    match word {
-        Some(digits) => Ok(digits.parse::<u16>()?),
-        None => Err(anyhow!("a number is missing")),
-    }
+    Ok(word.context("a number is missing")?.parse::<u16>()?)
 }
 
 // One operation of a field, against the answer that the line gives.
@@ -54,10 +51,7 @@ fn compare(line: &str, tally: &mut Tally) -> anyhow::Result<()> {
 }
 
 fn run(rt: &HostRuntime) -> anyhow::Result<()> {
-    let mut tally = Tally {
-        agree: 0,
-        differ: 0,
-    };
+    let mut tally = Tally::default();
     for line in rt.lines(rt.alloc()) {
         let line = line?;
         compare(line.as_str(), &mut tally)?;
