@@ -24,9 +24,10 @@ fn digits<'a>(from: Cursor<'a>) -> Result<Part<'a>, Stop>
     ensures { Here from.entry (λ s i. DigitsTold s i result) }
 {
     let first = from.at(past(from, BLANK)?);
+    let place = first.place;
     let end = digits_end::<MOST_CALL_DIGITS>(first);
-    if end == first.place {
-        return Err(Stop { place: first.place });
+    if end == place {
+        return Err(Stop { place });
     }
     Ok(first.part(end))
 }

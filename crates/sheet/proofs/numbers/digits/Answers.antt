@@ -7,5 +7,5 @@ returns c =
     let (blank, past) = c.in_ok-past.ensures in
     let sheet = c.at-first.ensures.sheet in
     let place = c.at-first.ensures.place ∙ past in
-    number_text blank (rw (sheet, place) at c.digits_end-end.ensures) (λ e. c.if-end-first.false (e ∙ sym place)) (rw (sheet, place) at c.part.ensures.text)
+    number_text blank (rw (sheet, place) at c.digits_end-end.ensures) (λ e. c.if-end-place.false (e ∙ sym place)) (rw (sheet, place) at c.part.ensures.text)
     c.part.ensures.ends
