@@ -166,7 +166,7 @@ fn factors_that_are_shared(rt: HostRuntime) -> Result<(), Fail> {
     Ok(())
 }
 
-// The plan of z, z + 1, z^2 + z + 1 and z^3 + z + 1 over bits.
+// The plan of z, z + 1, z^2 + z + 1 and z^3 + z + 1 over bits, written out as the other moduli of these tests.
 fn bit_plan(heap: Global) -> Result<Plan<Bits>, Fail> {
     let codes = handed_in(heap, &[&[0, 1], &[1, 1], &[1, 1, 1], &[1, 1, 0, 1]])?;
     Ok(Plan::<Bits>::new(2, &codes)?)

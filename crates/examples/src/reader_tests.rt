@@ -22,7 +22,8 @@ fn presence(first: &[bool]) -> [bool; MOST_POSITIONS] {
     array::from_fn(|i| first.get(i).copied().unwrap_or(false))
 }
 
-// Reads the codes at the positions that are present, and compares the first two codes of the message and its margin.
+// Reads the codes at the positions that are present, and compares the first two codes of the message and its margin. What has arrived is
+// put together in each function that needs it, since it lends residues that live no longer.
 fn reads<F: Field>(
     rt: &impl Abort,
     plan: &Plan<F>,

@@ -33,7 +33,7 @@ fn fill<M: Memory>(rack: &mut Rack<Bits, M>, channel: usize, slot: usize) -> Res
     Ok(())
 }
 
-// Reads 1 1, and compares its margin and e.
+// Reads 1 1, and compares its margin and e, which stand by themselves since each call would else write a `Found` out.
 fn reads<M: Memory>(
     rt: &impl Abort,
     rack: &Rack<Bits, M>,

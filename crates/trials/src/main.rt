@@ -35,7 +35,7 @@ impl Draws {
         if bound == 0 {
             return 0;
         }
-        ((self.state >> 33) % bound as u64) as u16
+        ((self.state >> 33) % u64::from(bound)) as u16
     }
 
     fn one_in(&mut self, many: u16) -> bool {
@@ -87,7 +87,7 @@ impl Counts {
 /// A modulus of degree 1 to 4 with leading code 1.
 fn draw_modulus<F: Field>(draws: &mut Draws) -> [u16; MODULUS_CODES] {
     let mut modulus = [0; MODULUS_CODES];
-    let degree = 1 + draws.below(4) as usize;
+    let degree = 1 + usize::from(draws.below(4));
     for code in modulus.iter_mut().take(degree) {
         *code = draws.below(F::ORDER);
     }
@@ -145,7 +145,7 @@ fn message_number<F: Field>(
     mut number: u64,
     length: usize,
 ) -> Result<Vec<u16>, AllocError> {
-    let order = F::ORDER as u64;
+    let order = u64::from(F::ORDER);
     let mut message = vec![in heap; 0; length]?;
     for code in message.iter_mut() {
         *code = (number % order) as u16;
@@ -156,7 +156,7 @@ fn message_number<F: Field>(
 
 /// How many messages there are, as far as a `u64` counts.
 fn messages<F: Field>(plan: &Plan<F>) -> u64 {
-    (0..plan.message_length()).fold(1u64, |count, _| count.saturating_mul(F::ORDER as u64))
+    (0..plan.message_length()).fold(1u64, |count, _| count.saturating_mul(u64::from(F::ORDER)))
 }
 
 /// The messages within the allowance, by trying all of them.
@@ -234,7 +234,7 @@ fn read<F: Field>(
 fn trial<F: Field>(heap: Global, draws: &mut Draws, counts: &mut Counts) -> Result<(), AllocError> {
     let extra = draws.below(MOST_DRAWN - 1);
     let positions = extra.saturating_add(2);
-    let carriers = 1 + draws.below(extra.saturating_add(1)) as usize;
+    let carriers = 1 + usize::from(draws.below(extra.saturating_add(1)));
     let codes = draw_moduli::<F>(heap, draws, positions)?;
     let Ok(plan) = Plan::<F>::new(carriers, &codes) else {
         more(&mut counts.no_plans);
