@@ -15,7 +15,7 @@ use Rattle.reader.specs.declared.answers.ReaderFault.TheVariants.{NoMessage, Too
 use Rattle.rack.specs.Channels.{channel_number}
 use Rattle.rack.specs.Ledger.{Ledger, Request, SlotState, account_in, after, blank, closed, closes, judge, ledger_changed, measures, no_channel, open_for, opens, puts, reads, step, strikes, write}
 use Rattle.rack.specs.Making.{Made}
-use Rattle.rack.specs.States.{Agrees, State, account_of, cells_at, record_at, slot_state, state_after}
+use Rattle.rack.specs.States.{Agrees, Performs, State, account_of, cells_at, record_at, slot_state, state_after}
 use Rattle.rack.specs.Told.{Outcome, ReadAs, Told}
 use Rattle.rack.specs.declared.call.Answer.TheVariants.{Done, Margin, Message}
 use Rattle.rack.specs.declared.call.Found.{Found}
@@ -162,13 +162,29 @@ module _ (s : Scheme) (load : Load) (ran : Ran s load.slots blank load.before lo
         let gives = reading_gives m w in
         record { found = found_for s a m; accepted = gives.0; filled = gives.1 }
 
--- Two readings are equal messages exactly when one message lies within the allowance of both accounts.
+-- Two readings gave a message exactly when it lies within both allowances; so they are equal messages exactly when some message does.
 pub same_messages : (s : Scheme) → FieldLaws s.arithmetic → IsScheme s → (one other : Load)
     → Ran s one.slots blank one.before one.done → Ran s other.slots blank other.before other.done → SameMessages s one other
-same_messages s L h one other ran ran' i j a b here there message = (
-  λ (first, second). (gave_within s one ran i a here message first, gave_within s other ran' j b there message second),
-  λ (first, second). (within_gave s one ran i a here L h message first, within_gave s other ran' j b there L h message second),
-)
+same_messages s L h one other ran ran' =
+    record {
+      equal = λ i j a b here there. (
+        λ equal. (
+          equal.codes,
+          gave_within s one ran i a here equal.codes equal.one_gave,
+          gave_within s other ran' j b there equal.codes equal.other_gave,
+        ),
+        λ (message, first, second).
+            record {
+              codes = message;
+              one_gave = within_gave s one ran i a here L h message first;
+              other_gave = within_gave s other ran' j b there L h message second;
+            },
+      );
+      each = λ i j a b here there message. (
+        λ (first, second). (gave_within s one ran i a here message first, gave_within s other ran' j b there message second),
+        λ (first, second). (within_gave s one ran i a here L h message first, within_gave s other ran' j b there L h message second),
+      );
+    }
 
 -- What a rack shows of an open slot is the account by its marks and cells,
 shown_account : (test : Bool) (owner : Option Channel) (a account : Account) (channel : Channel)
@@ -206,10 +222,38 @@ module _ (s : Scheme) (load : Load) (i : ℕ) (place : i < length load.before) w
         account_is = ap account_in is_open;
       }
 
--- No list changes the scheme.
-folded_scheme : (r : State) (qs : List Request) → (fold state_after r qs).scheme ≡ r.scheme
-folded_scheme r [] = refl
-folded_scheme r (q ∷ qs) = folded_scheme (state_after r q) qs ∙ (state_same r q).0
+-- No list changes the scheme or S.
+folded_same : (r : State) (qs : List Request) → ((fold state_after r qs).scheme ≡ r.scheme) × ((fold state_after r qs).slots ≡ r.slots)
+folded_same r [] = (refl, refl)
+folded_same r (q ∷ qs) =
+    let rest = folded_same (state_after r q) qs in
+    let here = state_same r q in
+    (rest.0 ∙ here.0, rest.1 ∙ here.1)
+
+-- A reading of an account that a message is within is accepted with that message.
+module _ (s : Scheme) (L : FieldLaws s.arithmetic) (h : IsScheme s) (a : Account) (m : List ℕ) (w : Within s a m) (slot : ℕ) (old new : List ℕ) where
+  read_gives : (outcome : Outcome) → ReadAs s a slot old new outcome → (outcome ≡ Ok (Message (found_for s a m))) × (new ≡ m)
+  read_gives (Ok (Message found)) (within, margin_is, wrong_is) =
+      let same : new ≡ m = one_within s L h a new m within w in
+      let says : found ≡ found_for s a new = rw (← margin_is, ← wrong_is) in
+      (ap (λ (x : Found). Ok (Message x)) says ∙ ap (λ (x : List ℕ). Ok (Message (found_for s a x))) same, same)
+  read_gives (Ok Done) says = absurd says
+  read_gives (Ok (Margin m)) says = absurd says
+  read_gives (Err fault) (same, (cause, fault_is, says)) = absurd (not_refused s a m cause w says)
+
+-- So is a read by the slot's channel on any rack that agrees with the ledger.
+module _ (s : Scheme) (L : FieldLaws s.arithmetic) (h : IsScheme s) (S : ℕ) (l : Ledger) (bounded : Bounded S l)
+    (r : State) (scheme_is : r.scheme ≡ s) (slots_are : r.slots ≡ S) (agrees : Agrees r l) where
+  read_on : (channel : Channel) (slot : ℕ) (buffer : List ℕ) → length buffer ≡ message_length s
+      → (a : Account) → l slot ≡ open_for channel a → (m : List ℕ) → Within s a m
+      → (outcome : Outcome) (r' : State) (given : Request) → Performs r (reads (channel_number channel) slot buffer) outcome r' given
+      → (outcome ≡ Ok (Message (found_for s a m))) × (given ≡ reads (channel_number channel) slot m)
+  read_on channel slot buffer long a is_open m w outcome r' given performs =
+      let told : Told s S l (reads (channel_number channel) slot buffer) outcome given = rw (← scheme_is, ← slots_are) (performs.agrees l agrees).0 in
+      let below = held_below S l bounded slot channel a is_open in
+      let read = told.passed (read_passes s S l channel slot buffer a below is_open long) in
+      let gives = read_gives s L h a m w slot buffer read.0 outcome (rw (ap account_in is_open) at read.2) in
+      (gives.0, read.1 ∙ ap (reads (channel_number channel) slot) gives.1)
 
 -- From the rack's making the ledger is blank.
 from_start : (s : Scheme) (load : Load) (start : State) → Made s load.slots load.cells load.top start
@@ -222,6 +266,10 @@ pub kept : (s : Scheme) → FieldLaws s.arithmetic → IsScheme s → (load : Lo
     → Made s load.slots load.cells load.top start → RunsOn start load.before load.done load.rack → Kept s load
 kept s L h load start made runs =
     let both = from_start s load start made runs in
+    let same = folded_same start (requests load.before) in
+    let scheme_is : load.rack.scheme ≡ s = ap (λ (x : State). x.scheme) runs.left ∙ same.0 ∙ made.scheme_is in
+    let slots_are : load.rack.slots ≡ load.slots = ap (λ (x : State). x.slots) runs.left ∙ same.1 ∙ made.slots_are in
+    let bounded = after_bounded s load.slots blank (requests load.before) (λ t _. refl) in
     record {
       start = start;
       made = made;
@@ -232,7 +280,7 @@ kept s L h load start made runs =
       unread = reading_none s load both.0;
       can_read = λ i place channel slot buffer asks long account is_open.
           reading_gives s load both.0 i account (can_read_is s load i place channel slot buffer asks long account is_open) L h;
-      holds = cells_hold s (ledger_left s load) load.rack
-          (ap (λ (x : State). x.scheme) runs.left ∙ folded_scheme start (requests load.before) ∙ made.scheme_is) both.1;
+      holds = cells_hold s (ledger_left s load) load.rack scheme_is both.1;
+      reads_next = read_on s L h load.slots (ledger_left s load) bounded load.rack scheme_is slots_are both.1;
       same_within = same_messages s L h load load both.0 both.0;
     }

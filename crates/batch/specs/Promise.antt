@@ -8,10 +8,11 @@ use Rattle.plan.specs.Schemes.{Scheme, message_length}
 use Rattle.reader.specs.Answers.{Answered}
 use Rattle.reader.specs.declared.answers.ReaderFault.{ReaderFault}
 use Rattle.rack.specs.Channels.{channel_number}
-use Rattle.rack.specs.Ledger.{Ledger, account_in, after, blank, judge, open_for, reads}
+use Rattle.rack.specs.Ledger.{Ledger, Request, account_in, after, blank, judge, open_for, reads}
 use Rattle.rack.specs.Making.{Made}
 use Rattle.rack.specs.Racks.{state}
-use Rattle.rack.specs.States.{Agrees, IsRack, State, cells_at, state_after}
+use Rattle.rack.specs.States.{Agrees, IsRack, Performs, State, cells_at, state_after}
+use Rattle.rack.specs.Told.{Outcome}
 use Rattle.rack.specs.declared.call.Answer.TheVariants.{Message}
 use Rattle.rack.specs.declared.call.Found.{Found}
 use Rattle.rack.specs.declared.channel.Channel.{Channel}
@@ -76,15 +77,26 @@ module _ (s : Scheme) where
     pub says : Answered s account (Err cause)
     pub unfilled : request_at load.done i ≡ request_at load.before i
 
-  -- Of any two readings, for every message: both were accepted with it in their buffers exactly when it lies within both allowances. Hence
-  -- both are accepted with equal buffers exactly when some message lies within both. The two lists may be one, and so may the readings.
-  abbrev pub SameMessages : Load → Load → Type 0
-  SameMessages one other =
-      (i j : ℕ) (a b : Account) (here : IsReading one i a) (there : IsReading other j b) (message : List ℕ)
-      → (Gave one i here.channel here.slot message × Gave other j there.channel there.slot message
-      → Within s a message × Within s b message)
-      × (Within s a message × Within s b message
-      → Gave one i here.channel here.slot message × Gave other j there.channel there.slot message)
+  -- Two readings are equal messages: both were accepted, and their buffers then hold the same codes.
+  pub record EqualMessages (one other : Load) (i j : ℕ) (a b : Account) (here : IsReading one i a) (there : IsReading other j b) : Type 0 where
+    pub codes : List ℕ
+    pub one_gave : Gave one i here.channel here.slot codes
+    pub other_gave : Gave other j there.channel there.slot codes
+
+  -- The law of two readings, call i of one list and call j of the other. The two lists may be one, and so may the readings.
+  pub record SameMessages (one other : Load) : Type 0 where
+    -- They are equal messages exactly when some message lies within the allowance of both accounts.
+    pub equal :
+        (i j : ℕ) (a b : Account) (here : IsReading one i a) (there : IsReading other j b)
+        → (EqualMessages one other i j a b here there → (message : List ℕ) × Within s a message × Within s b message)
+        × (((message : List ℕ) × Within s a message × Within s b message) → EqualMessages one other i j a b here there)
+    -- So it is of each message: both were accepted with it in their buffers exactly when it lies within both.
+    pub each :
+        (i j : ℕ) (a b : Account) (here : IsReading one i a) (there : IsReading other j b) (message : List ℕ)
+        → (Gave one i here.channel here.slot message × Gave other j there.channel there.slot message
+        → Within s a message × Within s b message)
+        × (Within s a message × Within s b message
+        → Gave one i here.channel here.slot message × Gave other j there.channel there.slot message)
 
   -- The cells of each slot that the ledger has open hold the account's residue at each position present there.
   abbrev pub HoldAccounts : Ledger → List ℕ → Type 0
@@ -95,14 +107,14 @@ module _ (s : Scheme) where
   -- What one list of calls keeps.
   pub record Kept (load : Load) : Type 0 where
     -- The rack was made of the memory and S, every slot closed, and is what the calls made of it, cell by cell and record by
-    -- record; it is a rack still, so that every further call has its own promise, and it agrees with the ledger.
+    -- record; it is a rack still; it agrees with the ledger, so that every further call on it is answered by that ledger.
     pub start : State
     pub made : Made s load.slots load.cells load.top start
     pub left : load.rack ≡ fold state_after start (requests load.before)
     pub is_rack : IsRack load.rack
     pub agrees : Agrees load.rack (ledger_left load)
-    -- Each call is answered as the ledger just before it says: refused by the first of the grounds 10 to 17 that it meets, what it gave
-    -- unaltered; else accepted, save a read that 18 or 19 refuses.
+    -- Each call is answered as the ledger just before it says: refused by the first of the grounds 10 to 17 that it meets, what it was
+    -- given unaltered; else accepted, save a read that 18 or 19 refuses.
     pub ran : Ran s load.slots blank load.before load.done
     -- A reading of an account that no message is within is refused as the account says.
     pub unread :
@@ -120,6 +132,14 @@ module _ (s : Scheme) where
         × (request_at load.done i ≡ reads (channel_number channel) slot message)
     -- After the list, the cells of each slot that the ledger has open hold the account's residue at every position present there.
     pub holds : HoldAccounts (ledger_left load) load.rack.cells
+    -- A read made next on the rack that is given back, by the slot's channel with a buffer of K codes, gives the message within the
+    -- allowance of the account that the list leaves.
+    pub reads_next :
+        (channel : Channel) (slot : ℕ) (buffer : List ℕ) → length buffer ≡ message_length s
+        → (account : Account) → ledger_left load slot ≡ open_for channel account → (message : List ℕ) → Within s account message
+        → (outcome : Outcome) (r' : State) (given : Request) → Performs load.rack (reads (channel_number channel) slot buffer) outcome r' given
+        → (outcome ≡ Ok (Message (record { margin = margin s account message; wrong = wrong s account message })))
+        × (given ≡ reads (channel_number channel) slot message)
     -- Any two readings of the list are equal messages exactly when one message lies within both allowances.
     pub same_within : SameMessages load load
 

@@ -12,12 +12,13 @@ use Rattle.batch.specs.declared.faults.PairFault.{PairFault}
 use Rattle.batch.specs.declared.faults.PairFault.TheVariants as pair
 
 module _ (f : Arithmetic) (k : ℕ) (codes : List ℕ) where
-  -- One rack, of S slots over cells with a top.
+  -- One rack, of S slots over cells with a top: there is no plan; or there is one, and the rack does not fit.
   abbrev pub LoadRefused : (S : ℕ) → List ℕ → (top : ℕ) → LoadFault → Type 0
   LoadRefused S cells top (load.Plan fault) = Refused f k codes fault
   LoadRefused S cells top (load.Rack fault) = Accepted f k codes × ¬ (Fits (handed_in f k codes) S cells top)
 
-  -- Two racks, the first of S slots and the second of T.
+  -- Two racks, the first of S slots and the second of T: there is no plan; or there is one, and the first rack does not fit; or that
+  -- fits, and the second does not.
   abbrev pub PairRefused : (S : ℕ) → List ℕ → (top : ℕ) → (T : ℕ) → List ℕ → (top' : ℕ) → PairFault → Type 0
   PairRefused S cells top T cells' top' (pair.Plan fault) = Refused f k codes fault
   PairRefused S cells top T cells' top' (pair.First fault) = Accepted f k codes × ¬ (Fits (handed_in f k codes) S cells top)

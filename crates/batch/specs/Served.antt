@@ -1,3 +1,4 @@
+-- Inner: no public contract cites this.
 -- One call of a list, performed, and its outcome written down.
 use Rattle.std.specs.Prelude.{◌≡◌, Some}
 use Rattle.rack.specs.Racks.{given_by}

@@ -1,9 +1,9 @@
-//! A list of calls is written as entries: a call, and room for its answer.
+//! A list of calls is written as entries: a call, and room for how it ended.
 ghost use Rattle.std.specs.Prelude.{◌≡◌, None};
 
 use rack::{Answer, Call, RackFault};
 
-/// A call with a place for its answer, so that running a list of calls allocates nothing.
+/// A call with a place for its outcome, so that running a list of calls allocates nothing.
 #[derive(Drop)]
 pub struct Entry {
     pub call: Call,

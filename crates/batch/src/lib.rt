@@ -8,5 +8,5 @@ mod running;
 
 pub use entry::Entry;
 pub use faults::{LoadFault, PairFault};
-pub use loading::{Loading, NotPaired, load, load_pair};
+pub use loading::{Loading, NotPaired, load, load_pair, load_under};
 pub use running::run;

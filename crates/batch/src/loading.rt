@@ -1,5 +1,6 @@
 //! Making racks and running lists of calls on them, straight from their making.
-ghost use Rattle.batch.specs.Loading.{LoadTold, PairTold};
+ghost use Rattle.plan.specs.Held.{scheme};
+ghost use Rattle.batch.specs.Loading.{LoadTold, PairTold, UnderTold};
 
 use crate::entry::Entry;
 use crate::faults::{LoadFault, PairFault};
@@ -7,7 +8,7 @@ use crate::running::run;
 use field::Field;
 use memory::{Memory, Returned};
 use plan::Plan;
-use rack::Rack;
+use rack::{FitFault, Rack};
 
 /// Two memories that no lists were run on, handed back as they were, and why.
 #[derive(Drop)]
@@ -48,10 +49,30 @@ pub fn load<F: Field, M: Memory>(
             });
         }
     };
-    let mut rack = Rack::new(plan, memory, slots).map_err(|Returned { memory, fault }| Returned {
+    let loading = Loading {
+        entries,
+        memory,
+        slots,
+    };
+    load_under(plan, loading).map_err(|Returned { memory, fault }| Returned {
         memory,
         fault: LoadFault::from(fault),
-    })?;
+    })
+}
+
+/// Makes a rack under a plan that is there already, and runs the calls. A refusal alters neither the memory nor an entry.
+pub fn load_under<F: Field, M: Memory>(
+    plan: Plan<F>,
+    loading: Loading<'_, M>,
+) -> Result<Rack<F, M>, Returned<M, FitFault>>
+    ensures { UnderTold (scheme plan) loading.entry loading.exit.0.now result }
+{
+    let Loading {
+        entries,
+        memory,
+        slots,
+    } = loading;
+    let mut rack = Rack::new(plan, memory, slots)?;
     run(&mut rack, entries);
     Ok(rack)
 }

@@ -1,5 +1,6 @@
 pub mod Held
 pub mod Made
+pub mod Misfits
 pub mod Moduli
 pub mod Numbers
 pub mod OwnWord

@@ -1,9 +1,10 @@
 -- What has arrived of a word, and how far a message is from it.
-use Rattle.std.specs.Prelude.{◌≡◌, ℕ, zero, suc, ◌+◌, ◌*◌, Bool, true, false, cond, ◌&&◌, List, [], ◌∷◌, ℤ, pos, negsuc, ◌+ℤ◌, ◌-ℤ◌, ◌≤ℤ◌, Some, None, Option, ◌==◌}
+use Rattle.std.specs.Prelude.{◌≡◌, ℕ, zero, suc, ◌+◌, ◌*◌, ◌<◌, Bool, true, false, cond, ◌&&◌, List, [], ◌∷◌, length, ℤ, pos, negsuc, ◌+ℤ◌, ◌-ℤ◌, ◌≤ℤ◌, Some, None, Option, ◌==◌}
 use Rattle.algebra.specs.Field.{FieldLaws}
+use Rattle.algebra.specs.Polynomial.{coefficients}
 use Rattle.plan.specs.Schemes.{Scheme, IsScheme, IsMessage, positions, degree, residue, word_length, message_length}
 
--- An account gives each position a residue, or calls it missing.
+-- An account gives each position a residue, or calls it missing; what it says past the last position counts for nothing.
 abbrev pub Account : Type 0
 Account = ℕ → Option (List ℕ)
 
@@ -48,7 +49,7 @@ module _ (s : Scheme) where
     pub is_message : IsMessage s message
     pub margin_enough : pos 0 ≤ℤ margin account message
 
--- A message lies within the allowance of its own word, nothing missing: so every message can be read.
+-- A message lies within the allowance of its own word, nothing missing: so every message can be read. This asks no law of the field.
 abbrev pub OwnWordWithin : Type 0
 OwnWordWithin =
     (s : Scheme) → IsScheme s → (message : List ℕ) → IsMessage s message → Within s (λ i. Some (residue s message i)) message
@@ -64,3 +65,14 @@ abbrev pub MarginsApart : Type 0
 MarginsApart =
     (s : Scheme) → FieldLaws s.arithmetic → IsScheme s → (account : Account) (a b : List ℕ)
     → IsMessage s a → IsMessage s b → ¬ (a ≡ b) → (margin s account a +ℤ margin s account b) ≤ℤ negsuc 1
+
+-- What position i may hold in a word: as many numbers as its degree, all of them codes of the field.
+pub record FitsPosition (s : Scheme) (i : ℕ) (y : List ℕ) : Type 0 where
+  pub long : length y ≡ degree s i
+  pub codes : (j : ℕ) → coefficients y j < s.arithmetic.order
+
+-- A residue of another length, or with a number of q or more, is wrong for every message: it is charged the position's degree.
+abbrev pub MisfitIsWrong : Type 0
+MisfitIsWrong =
+    (s : Scheme) → FieldLaws s.arithmetic → (i : ℕ) (y : List ℕ) → ¬ (FitsPosition s i y)
+    → (message : List ℕ) → charge s message i (Some y) ≡ degree s i

@@ -1,3 +1,4 @@
+-- Inner: no public contract cites this.
 -- The scheme that is handed in, before it is known to be lawful.
 use Rattle.algebra.specs.Field.{Arithmetic}
 use Rattle.plan.specs.Schemes.{Scheme}

@@ -13,11 +13,12 @@ pub record Scheme : Type 0 where
   -- each modulus by its codes, lowest power first; zeros may follow
   pub moduli : List (List ℕ)
 
--- How many codes there are up to the last that is not 0; the degree is one less, and 0 for the zero polynomial.
+-- How many codes there are up to the last that is not 0.
 abbrev pub extent : List ℕ → ℕ
 extent [] = 0
 extent (c ∷ codes) = cond (extent codes == 0 && c == 0) 0 (suc (extent codes))
 
+-- The degree of a polynomial other than 0. Of 0 it says 0, where the rules say -1: either is below 1, so no lawful modulus has it.
 abbrev pub degree_of : List ℕ → ℕ
 degree_of codes = extent codes - 1
 

@@ -1,4 +1,4 @@
-// Where a list of numbers first leaves the codes of a field.
+//! Where a list of numbers first leaves the codes of a field.
 ghost use Rattle.std.specs.Prelude.{MatchOption};
 ghost use Rattle.plan.specs.Refusals.{AreCodes, FirstNoCode};
 

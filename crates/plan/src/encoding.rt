@@ -1,4 +1,4 @@
-// Encoding a message as its remainder word.
+//! Encoding a message as its remainder word.
 ghost use Rattle.std.specs.Prelude.{◌≡◌, ◌<◌, true, length, take, is_ok};
 ghost use Rattle.plan.specs.Held.{scheme};
 ghost use Rattle.plan.specs.Refusals.{Encoded, HoldsRemainders};

@@ -1,4 +1,4 @@
-// Why a plan or an encoding is refused.
+//! Why a plan or an encoding is refused.
 ghost use Rattle.plan.specs.Refusals.{plan_ground, encode_ground};
 
 use fault::{Fault, Ground, Layer};

@@ -1,4 +1,4 @@
-// What a plan tells of itself: its numbers of positions and codes, and each position's modulus, start and degree.
+//! What a plan tells of itself: its numbers of positions and codes, and each position's modulus, start and degree.
 ghost use Rattle.std.specs.Prelude.{◌≡◌, ℕ, ◌+◌, ◌<◌, ◌≤◌, length};
 ghost use Rattle.plan.specs.Held.{scheme};
 ghost use Rattle.plan.specs.Limits.{modulus_codes};

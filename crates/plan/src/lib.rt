@@ -1,4 +1,4 @@
-// Plans: a field, k and pairwise coprime moduli; and the encoding of a message as its remainder word.
+//! Plans: a field, k and pairwise coprime moduli; and the encoding of a message as its remainder word.
 #![tactic(auto)]
 
 mod codes;
@@ -15,4 +15,4 @@ pub use codes::first_no_code;
 pub use faults::{EncodeFault, PlanFault};
 pub use limits::{MODULUS_CODES, MOST_POSITIONS, MOST_TOTAL};
 pub use plans::Plan;
-pub use theorems::{margins_apart, one_message_within, own_word_within};
+pub use theorems::{margins_apart, misfit_is_wrong, one_message_within, own_word_within};

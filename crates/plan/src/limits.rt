@@ -1,4 +1,4 @@
-// The limits of a plan, each under one name, and the size of the table that follows from them.
+//! The limits of a plan, each under one name, and the size of the table that follows from them.
 
 /// A modulus is handed in as this many codes, so its degree is at most 8.
 pub const MODULUS_CODES: usize = 9;

@@ -1,4 +1,4 @@
-// Making a plan: the checks in their order, each by its own function.
+//! Making a plan: the checks in their order, each by its own function.
 ghost use Rattle.std.specs.Prelude.{◌≡◌, ℕ, ◌+◌, ◌<◌, ◌≤◌, List, length, take, Decides, MatchOption, MatchResult};
 ghost use Rattle.algebra.specs.Field.{Arithmetic};
 ghost use Rattle.plan.specs.Agreement.{StartsAgree};

@@ -1,4 +1,4 @@
-// What a plan keeps: k, the moduli as they were handed in, and where each position of a word starts.
+//! What a plan keeps: k, the moduli as they were handed in, and where each position of a word starts.
 ghost use Rattle.std.specs.Prelude.{◌≡◌, ◌≤◌, length, ⊤};
 ghost use Rattle.plan.specs.Agreement.{StartsAgree, kept};
 ghost use Rattle.plan.specs.Schemes.{IsScheme};

@@ -1,9 +1,14 @@
-// What holds of every account under every lawful scheme. The functions do nothing: each asks for a theorem.
-ghost use Rattle.plan.specs.Accounts.{MarginsApart, OneWithin, OwnWordWithin};
+//! What holds of every account under every lawful scheme. The functions do nothing: each asks for a theorem.
+ghost use Rattle.plan.specs.Accounts.{MarginsApart, MisfitIsWrong, OneWithin, OwnWordWithin};
 
 /// Every message lies within the allowance of its own word.
 pub fn own_word_within()
     ensures { OwnWordWithin }
+{}
+
+/// A residue that holds a number of q or more, or is of another length than its position, is wrong for every message.
+pub fn misfit_is_wrong()
+    ensures { MisfitIsWrong }
 {}
 
 /// At most one message lies within the allowance of an account.

@@ -1,8 +1,10 @@
+pub mod Altering
 pub mod Answering
 pub mod Judging
 pub mod Loading
 pub mod Numbers
 pub mod Overwriting
+pub mod Owning
 pub mod Passing
 pub mod Performing
 pub mod Showing

@@ -3,12 +3,13 @@
 use Rattle.std.proofs.Common.{◌≡◌, ℕ, ◌<◌, Bool, true, false, not, eqb, leb, List, length, Some, None, Option, sym, refl, ap, ◌∙◌}
 use Rattle.std.proofs.lemmas.Bool.{eqb-true, leb-false, not-false}
 use Rattle.plan.specs.Schemes.{Scheme, degree, message_length, positions}
+use Rattle.rack.specs.Channels.{channel_number}
 use Rattle.rack.specs.Checks.{holder_ground, message_ground, open_ground, opening_ground, residue_ground, use_ground}
 use Rattle.rack.specs.Ledger.{Ledger, Request, SlotState, closed, closes, first_of, is_closed, judge, measures, met, no_channel, no_code, no_position, no_slot, open_already, open_for, opens, other_channel, puts, reads, strikes, wrong_length}
 use Rattle.rack.specs.declared.channel.Channel.{Channel}
 use Rattle.rack.specs.declared.faults.RackFault.{RackFault}
 use Rattle.rack.specs.declared.faults.RackFault.TheVariants.{Slot}
-use Rattle.rack.specs.declared.faults.SlotFault.TheVariants.{NoPosition, NoSlot, WrongLength}
+use Rattle.rack.specs.declared.faults.SlotFault.TheVariants.{NoPosition, NoSlot, OtherChannel, WrongLength}
 
 -- Of two grounds neither is met.
 pub first_none : (x y : Option RackFault) → first_of x y ≡ None → (x ≡ None) × (y ≡ None)
@@ -121,6 +122,14 @@ put_passes s slot position residue e =
       length_passes slot (degree s position) residue (first_none right (no_code s slot residue) parts.1).0,
     )
 
+-- 12 and 14 are not met: the channel is that of the slot's holder.
+holder_passes : (channel slot : ℕ) (holding : Option Channel) → holder_ground channel slot holding ≡ None
+    → (owner : Channel) × (holding ≡ Some owner) × (channel_number owner ≡ channel)
+holder_passes channel slot None e = cc
+holder_passes channel slot (Some owner) e =
+    let same = eqb (channel_number owner) channel in
+    (owner, refl, eqb-true (channel_number owner) channel (not-false same (met_none (not same) (Slot slot OtherChannel) e)))
+
 -- The same, of calls that a ledger passes.
 module _ (s : Scheme) (S : ℕ) (l : Ledger) where
   inside : (channel slot : ℕ) → used s S l channel slot ≡ None → slot < S
@@ -135,6 +144,26 @@ module _ (s : Scheme) (S : ℕ) (l : Ledger) where
       let parts = first_none (used s S l channel slot) (residue_ground s slot position residue) (parts_pass s S l (puts channel slot position residue) e) in
       let fits = put_passes s slot position residue parts.1 in
       (inside channel slot parts.0, fits.0, fits.1)
+
+  -- The number that a put or a read names is that of the slot's holder.
+  user : (channel slot : ℕ) → used s S l channel slot ≡ None
+      → (owner : Channel) × (holder (l slot) ≡ Some owner) × (channel_number owner ≡ channel)
+  user channel slot e =
+      let holding = holder_ground channel slot (holder (l slot)) in
+      let named = first_none (no_channel channel) (first_of (no_slot S slot) holding) e in
+      holder_passes channel slot (holder (l slot)) (first_none (no_slot S slot) holding named.1).1
+
+  pub put_user : (channel slot position : ℕ) (residue : List ℕ) → judge s S l (puts channel slot position residue) ≡ None
+      → (owner : Channel) × (holder (l slot) ≡ Some owner) × (channel_number owner ≡ channel)
+  put_user channel slot position residue e =
+      let parts = first_none (used s S l channel slot) (residue_ground s slot position residue) (parts_pass s S l (puts channel slot position residue) e) in
+      user channel slot parts.0
+
+  pub read_user : (channel slot : ℕ) (buffer : List ℕ) → judge s S l (reads channel slot buffer) ≡ None
+      → (owner : Channel) × (holder (l slot) ≡ Some owner) × (channel_number owner ≡ channel)
+  read_user channel slot buffer e =
+      let right = wrong_length slot (message_length s) buffer in
+      user channel slot (first_none (used s S l channel slot) right (parts_pass s S l (reads channel slot buffer) e)).0
 
   pub strike_judged : (channel slot position : ℕ) → judge s S l (strikes channel slot position) ≡ None
       → (slot < S) × (position < positions s)

@@ -57,7 +57,7 @@ module _ (s : Scheme) (slot position : ℕ) (residue : List ℕ) (long : length 
 
   module _ (cells : List ℕ) (room : cell_of s slot position + length residue ≤ length cells) where
     -- Once the residue is written, the position holds it, and what lies apart from it is as it was.
-    put_here : cells_at s (overwritten cells (cell_of s slot position) residue) slot position ≡ residue
+    pub put_here : cells_at s (overwritten cells (cell_of s slot position) residue) slot position ≡ residue
     put_here =
         ap (λ (d : ℕ). take d (drop (cell_of s slot position) (overwritten cells (cell_of s slot position) residue))) (sym long)
         ∙ overwritten_here cells (cell_of s slot position) residue room

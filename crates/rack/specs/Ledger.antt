@@ -89,7 +89,7 @@ abbrev pub no_code : Scheme → ℕ → List ℕ → Option RackFault
 no_code s slot codes = code_fault slot (first_beyond s.arithmetic.order codes)
 
 module _ (s : Scheme) (S : ℕ) where
-  -- The first of the grounds 10 to 17 that a call meets: those that concern it, in rising order.
+  -- The first of the grounds 10 to 17 that a call meets: those that concern it, in rising order. A call that meets none of them passes.
   abbrev pub judge : Ledger → Request → Option RackFault
   judge l (opens channel slot) = first_met (no_channel channel ∷ no_slot S slot ∷ open_already slot (l slot) ∷ [])
   judge l (puts channel slot position residue) =

@@ -1,6 +1,7 @@
 pub mod Channels
 pub mod Checks
 pub mod Grounds
+pub mod Laws
 pub mod Ledger
 pub mod Limits
 pub mod Making

@@ -1,3 +1,4 @@
+-- Inner: no public contract cites this.
 -- What the reader makes of a slot's account, its fault taken up into the rack's.
 use Rattle.std.specs.Prelude.{◌≡◌, Ok, Err, Result}
 use Rattle.plan.specs.Accounts.{Account}

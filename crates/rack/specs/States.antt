@@ -27,10 +27,11 @@ pub record State : Type 0 where
 abbrev pub held_by : Scheme → Slots → List ℕ → ℕ → State
 held_by s slots cells top = record { scheme = s; slots = slots.count; records = slots.records; cells = cells; top = top }
 
+-- The record of a slot; past the table one that nobody holds.
 abbrev pub record_at : State → ℕ → SlotRecord
 record_at r slot = slice_index_or r.records slot (record { owner = None; present = [] })
 
--- Where position i of a slot begins among the cells: slot s has the cells from s × N on.
+-- Where position i of a slot begins among the cells: a slot has the cells from its number × N on.
 abbrev pub cell_of : Scheme → ℕ → ℕ → ℕ
 cell_of s slot i = slot * word_length s + start s i
 
@@ -42,11 +43,12 @@ cells_at s cells slot i = take (degree s i) (drop (cell_of s slot i) cells)
 abbrev pub account_of : State → ℕ → Account
 account_of r slot i = cond (slice_index_or (record_at r slot).present i false) (Some (cells_at r.scheme r.cells slot i)) None
 
+-- A slot by its holder: with none it is closed.
 abbrev pub slot_state : Option Channel → Account → SlotState
 slot_state None account = closed
 slot_state (Some channel) account = open_for channel account
 
--- The ledger that the records and cells show.
+-- The ledger that the records and cells show; a number from S on is closed.
 abbrev pub shown : State → Ledger
 shown r slot = cond (nat_lt slot r.slots) (slot_state (record_at r slot).owner (account_of r slot)) closed
 
@@ -63,10 +65,11 @@ with_record r slot entry =
 abbrev pub with_cells : State → List ℕ → State
 with_cells r cells = record { scheme = r.scheme; slots = r.slots; records = r.records; cells = cells; top = r.top }
 
--- The numbers from place `at` on become the codes, and the others stay; from there on there is a number for each code.
+-- The numbers from place `at` on become the codes, and the others stay; used only where there is a number for each code.
 abbrev pub overwritten : List ℕ → ℕ → List ℕ → List ℕ
 overwritten cells at codes = take at cells ++ (codes ++ drop (at + length codes) cells)
 
+-- The record with one position present, or missing.
 abbrev pub marked : SlotRecord → ℕ → Bool → SlotRecord
 marked entry position mark = record { owner = entry.owner; present = slice_set entry.present position mark }
 
@@ -92,15 +95,15 @@ pub record Fits (s : Scheme) (S : ℕ) (cells : List ℕ) (top : ℕ) : Type 0 w
   pub room : S * word_length s ≤ length cells
   pub wide : s.arithmetic.order ≤ top + 1
 
--- A rack as its maker makes it from a lawful plan, and as every call leaves it. The tables are as long as their types say.
+-- What holds of every rack: a lawful plan, S and a memory that fit, and tables as long as their types say.
 pub record IsRack (r : State) : Type 0 where
   pub lawful : IsScheme r.scheme
   pub fits : Fits r.scheme r.slots r.cells r.top
   pub table : length r.records ≡ most_slots
   pub marks : (slot : ℕ) → slot < r.slots → length (record_at r slot).present ≡ most_positions
 
--- A call on a rack: the answer by what the records and cells show, what the rack is afterwards, and that a ledger which agreed
--- with the rack before the call agrees with it again once the call is written there, and gives the same answer.
+-- A call on a rack: the answer by what the records and cells show, what the rack is afterwards, that it stays a rack, and that a
+-- ledger which agreed with it before the call agrees with it again once the call is written there, and gives the same answer.
 pub record Performs (r : State) (request : Request) (outcome : Outcome) (r' : State) (given : Request) : Type 0 where
   pub told : Told r.scheme r.slots (shown r) request outcome given
   pub left : r' ≡ state_after r request

@@ -1,4 +1,4 @@
--- What a call is answered, by a ledger, and what becomes of the residue, the message or the buffer that it gave.
+-- What a call is answered, by a ledger, and what becomes of the residue, the message or the buffer that it was given.
 use Rattle.std.specs.Prelude.{◌≡◌, ℕ, List, Some, None, Ok, Err, Result}
 use Rattle.plan.specs.Accounts.{Account, Within, margin, wrong}
 use Rattle.plan.specs.Schemes.{Scheme}
@@ -26,7 +26,7 @@ module _ (s : Scheme) where
   ReadAs account slot before buffer (Err fault) =
       (buffer ≡ before) × ((cause : ReaderFault) × (fault ≡ Slot slot (Unread cause)) × Answered s account (Err cause))
 
-  -- A call that the ledger passes; the last argument is what it gave, as it is afterwards.
+  -- A call that the ledger passes; the last argument is what it was given, as that is afterwards.
   abbrev pub Passed : Ledger → Request → Outcome → Request → Type 0
   Passed l (opens channel slot) outcome given = (outcome ≡ Ok Done) × (given ≡ opens channel slot)
   Passed l (puts channel slot position residue) outcome given = (outcome ≡ Ok Done) × (given ≡ puts channel slot position residue)
@@ -37,7 +37,7 @@ module _ (s : Scheme) where
       (outcome ≡ Ok (Margin (margin s (account_in (l slot)) message))) × (given ≡ measures channel slot message)
   Passed l (closes channel slot) outcome given = (outcome ≡ Ok Done) × (given ≡ closes channel slot)
 
-  -- A call on a rack of S slots: refused by the first of the grounds 10 to 17 that the ledger finds, what it gave being as it was;
+  -- A call on a rack of S slots: refused by the first of the grounds 10 to 17 that the ledger finds, what it was given being as it was;
   -- else answered by the ledger's account, by which a read may still be refused on ground 18 or 19.
   pub record Told (S : ℕ) (l : Ledger) (request : Request) (outcome : Outcome) (given : Request) : Type 0 where
     pub refused : (fault : RackFault) → judge s S l request ≡ Some fault → (outcome ≡ Err fault) × (given ≡ request)

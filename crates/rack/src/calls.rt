@@ -104,7 +104,7 @@ impl<F: Field, M: Memory> Rack<F, M> {
         Ok(())
     }
 
-    /// Overwrites a cell as a fault in the memory would, for damage in tests and lessons: no call, and no record learns of it.
+    /// Overwrites a cell as a fault in the memory would, for damage in tests and demonstrations: no call, and no record learns of it.
     /// Refused exactly when the memory refuses.
     pub fn overwrite_cell(&mut self, cell: usize, value: u16) -> bool
         ensures sets { Sets (M.Memory.cells self.old.memory) (M.Memory.top self.old.memory) cell value result (M.Memory.cells self.new.memory) (M.Memory.top self.new.memory) }

@@ -1,4 +1,4 @@
-//! Whether a channel may open or use a slot, and whether what a call gives fits the plan. A check takes the slot to name it in its fault,
+//! Whether a channel may open or use a slot, and whether what a call is given fits the plan. A check takes the slot to name it in its fault,
 //! which each call would else have to add behind each check.
 ghost use Rattle.std.specs.Prelude.{◌≡◌};
 ghost use Rattle.plan.specs.Held.{scheme};

@@ -12,9 +12,11 @@ mod limits;
 mod making;
 mod records;
 mod table;
+mod theorems;
 
 pub use call::{Answer, Call, Found};
 pub use channel::Channel;
 pub use faults::{FitFault, RackFault, SlotFault};
 pub use limits::MOST_SLOTS;
 pub use table::Rack;
+pub use theorems::{calls_alter_their_own, residues_are_the_channels_own};
