@@ -11,7 +11,7 @@ last_digit = 57
 abbrev pub Digit : ℕ → Type 0
 Digit b = (first_digit ≤ b) × (b ≤ last_digit)
 
--- z, ^, +, *, ( and ), and the end of a line.
+-- z, ^, +, *, ( and ), a blank, and the end of a line.
 abbrev pub letter_z : ℕ
 letter_z = 122
 
@@ -29,6 +29,9 @@ left_bracket = 40
 
 abbrev pub right_bracket : ℕ
 right_bracket = 41
+
+abbrev pub blank_byte : ℕ
+blank_byte = 32
 
 abbrev pub line_end : ℕ
 line_end = 10

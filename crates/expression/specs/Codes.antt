@@ -1,3 +1,4 @@
+-- Inner: no public contract cites this.
 -- Values whose numbers are codes of a field: what the arithmetic asks of them.
 use Rattle.std.specs.Prelude.{Some, None}
 use Rattle.algebra.specs.Field.{Arithmetic}

@@ -6,6 +6,7 @@ pub mod Grammar
 pub mod Limits
 pub mod Lines
 pub mod Readings
+pub mod Signs
 pub mod Texts
 pub mod Tokens
 pub mod Values

@@ -1,3 +1,4 @@
+-- Inner: no public contract cites this.
 -- What the readers of a sum, a term and a factor promise each other: what was read, or where reading stopped.
 use Rattle.std.specs.Prelude.{◌≡◌, ℕ, ◌+◌, ◌<◌, ◌≤◌, ◌⊎◌, List, ◌++◌, length, MatchResult, Result, slice_index}
 use Rattle.std.specs.List.{between, AllByRecursion}

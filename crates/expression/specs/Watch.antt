@@ -1,3 +1,4 @@
+-- Inner: no public contract cites this.
 -- A watch that follows a line byte by byte and knows no values. It serves the proofs alone, to show that after some byte no line
 -- goes on: the readers promise each other what it sees.
 use Rattle.std.specs.Prelude.{ℕ, zero, suc, ◌-◌, Bool, cond, ◌&&◌, List, [], ◌∷◌, ◌==◌, nat_le, nat_lt}

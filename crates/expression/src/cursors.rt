@@ -13,7 +13,7 @@ pub struct Cursor<'a> {
 }
 
 impl<'a> Cursor<'a> {
-    ghost use Rattle.std.specs.Prelude.{◌≡◌, ◌+◌, ◌≤◌, length, drop, Decides, MatchOption};
+    ghost use Rattle.std.specs.Prelude.{◌≡◌, ◌+◌, ◌≤◌, length, drop, MatchOption};
     ghost use Rattle.std.specs.List.{between};
     ghost use Rattle.expression.specs.Cursors.{Here};
     ghost use Rattle.expression.specs.Texts.{Stands};
@@ -30,27 +30,11 @@ impl<'a> Cursor<'a> {
         }
     }
 
-    /// The place after so many bytes.
-    pub fn after(self, count: usize) -> Cursor<'a>
-        requires { self.place + count ≤ length self.sheet.now }
-        ensures sheet { result.sheet.now ≡ self.entry.sheet.now }
-        ensures place { result.place ≡ self.entry.place + count }
-    {
-        self.at(self.place + count)
-    }
-
     /// The byte that stands here; none at the sheet's end.
     pub fn byte(self) -> Option<u8>
         ensures { Here self.entry (λ s i. MatchOption result (i ≡ length s) (λ byte. Stands byte s i)) }
     {
         self.sheet.get(self.place).copied()
-    }
-
-    /// Whether this byte stands here.
-    pub fn stands(self, byte: u8) -> bool
-        ensures { Here self.entry (λ s i. Decides result (Stands byte s i)) }
-    {
-        self.byte() == Some(byte)
     }
 
     /// The sheet from here on.

@@ -9,15 +9,16 @@ mod parsed;
 mod parts;
 mod readers;
 mod scopes;
+mod signs;
 mod theorems;
 mod tokens;
 mod values;
 
 pub use cursors::Cursor;
-pub use limits::LINE_END;
 pub use lines::{modulus_line, modulus_line_at};
 pub use names::FieldName;
 pub use parsed::{Parsed, Stop};
 pub use parts::Part;
+pub use signs::Sign;
 pub use theorems::one_expression;
-pub use tokens::{Token, digits_end, numeral_of};
+pub use tokens::{Token, digits_end, numeral_of, sign_at};

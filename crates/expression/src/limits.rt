@@ -9,6 +9,3 @@ pub const MOST_BRACKETS: u8 = 8;
 
 /// A product of two values has as many codes as its degree can ask for.
 pub const PRODUCT_CODES: usize = MODULUS_CODES + MODULUS_CODES - 1;
-
-/// The byte that ends a line.
-pub const LINE_END: u8 = b'\n';

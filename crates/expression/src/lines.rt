@@ -6,11 +6,12 @@ ghost use Rattle.expression.specs.Lines.{AnyLine, LineRead};
 ghost use Rattle.expression.specs.Texts.{Lost};
 
 use crate::cursors::Cursor;
-use crate::limits::LINE_END;
 use crate::names::FieldName;
 use crate::parsed::{Parsed, Stop};
 use crate::readers::sum;
 use crate::scopes::Scope;
+use crate::signs::Sign;
+use crate::tokens::sign_at;
 use crate::values::Value;
 
 /// Reads the line that begins at `from`: a sum and the end of the line. What is read are the codes of its modulus, lowest power first, or
@@ -20,14 +21,13 @@ pub fn modulus_line_at(from: Cursor, field: FieldName) -> Result<Parsed<Value>, 
     ensures { Here from.entry (λ s i. MatchResult result (λ line. LineRead (arithmetic_of field) s i line.end line.value) (λ stop. Lost AnyLine s i stop.place)) }
 {
     let whole = sum(from, Scope::outside(field))?;
-    if from.at(whole.end).stands(LINE_END) {
-        Ok(Parsed {
-            value: whole.value,
-            end: whole.end + 1,
-        })
-    } else {
-        Err(Stop { place: whole.end })
-    }
+    let Some(sign) = sign_at(from.at(whole.end), Sign::LineEnd) else {
+        return Err(Stop { place: whole.end });
+    };
+    Ok(Parsed {
+        value: whole.value,
+        end: sign.end(),
+    })
 }
 
 /// The same at a place that may be past the sheet's end, where it stops at that end.

@@ -6,11 +6,12 @@ ghost use Rattle.expression.specs.Bytes.{Digit};
 ghost use Rattle.expression.specs.Grammar.{numeral};
 ghost use Rattle.expression.specs.Limits.{short_number};
 ghost use Rattle.expression.specs.Readings.{DigitsTo};
-ghost use Rattle.expression.specs.Tokens.{TokenAt};
+ghost use Rattle.expression.specs.Tokens.{SignTold, TokenAt};
 
 use crate::cursors::Cursor;
 use crate::limits::MOST_DIGITS;
 use crate::parts::Part;
+use crate::signs::Sign;
 
 /// A number, a word or a sign, as it stands on the sheet; or the sheet's end.
 #[derive(Clone, Copy)]
@@ -43,6 +44,16 @@ pub fn token_at<'a>(from: Cursor<'a>) -> Token<'a>
         Token::Word(from.part(from.place + 1))
     } else {
         Token::Sign(from.part(from.place + 1))
+    }
+}
+
+/// The part of this sign, if it stands at a place.
+pub fn sign_at<'a>(from: Cursor<'a>, sign: Sign) -> Option<Part<'a>>
+    ensures { Here from.entry (λ s i. SignTold sign s i result) }
+{
+    match token_at(from) {
+        Token::Sign(part) if part.text[0] == sign.byte() => Some(part),
+        _ => None,
     }
 }
 

@@ -81,17 +81,17 @@ names Measure t = refl
 names Close t = refl
 
 -- A line begins with one name at most.
-abbrev pub Named : CallName → List ℕ → Type 0
-Named name x = x ≡ word name
+abbrev pub IsName : CallName → List ℕ → Type 0
+IsName name x = x ≡ word name
 
-pub told_name : Told Named
+pub told_name : Told IsName
 told_name v w x y a b p q e =
     let whole : word v ++ y ≡ word w ++ b = ap (λ u. u ++ y) (sym p) ∙ (e ∙ ap (λ u. u ++ b) q) in
     let same : v ≡ w = sym (names v y) ∙ (ap (λ l. named_by (get_or l 0 0)) whole ∙ names w b) in
     (same, p ∙ (ap word same ∙ sym q), append_cancel_left (word w) y b (ap (λ u. word u ++ y) (sym same) ∙ whole))
 
-pub to_named : (x : List ℕ) → AnyCallLine x → After Named AnyTail x
+pub to_named : (x : List ℕ) → AnyCallLine x → After IsName AnyTail x
 to_named x (r, line) = let p = call_parts line in (p.name, (word p.name, (p.after, refl, (r, p.tail), p.is)))
 
-pub from_named : (x : List ℕ) → After Named AnyTail x → AnyCallLine x
+pub from_named : (x : List ℕ) → After IsName AnyTail x → AnyCallLine x
 from_named x (name, (a, (b, is, (r, tail), e))) = (r, subst (λ y. IsCallLine y r) (sym (e ∙ ap (λ u. u ++ b) is)) (whole_line tail))

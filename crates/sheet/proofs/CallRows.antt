@@ -2,11 +2,12 @@
 use Rattle.std.proofs.Common.{◌≡◌, ℕ, ◌+◌, ◌<◌, ◌≤◌, List, [], ◌∷◌, ◌++◌, length, sym, ap, ◌∙◌, subst, inl, inr, append_assoc, append-nil, arith, length-append}
 use Rattle.std.proofs.lemmas.List.Edits.{between_none, length-between}
 use Rattle.std.specs.List.{between}
+use Rattle.expression.specs.Bytes.{blank_byte}
 use Rattle.expression.specs.Grammar.{numeral}
 use Rattle.expression.specs.Readings.{DigitsTo}
 use Rattle.expression.specs.Texts.{Stands}
 use Rattle.sheet.specs.CallNumbers.{NoNumber, NumberAt, NumberText, NumbersAt, NumbersLost, none_at, one_more_at}
-use Rattle.sheet.specs.Grammar.{IsCallNumber, Numbers, blank_byte, no_numbers, number_more}
+use Rattle.sheet.specs.Grammar.{IsCallNumber, Numbers, no_numbers, number_more}
 use Rattle.sheet.specs.Limits.{most_call_digits}
 use Rattle.sheet.proofs.Between.{part_first, part_join}
 

@@ -16,7 +16,8 @@ use Rattle.sheet.specs.Drafts.{Drafted}
 use Rattle.sheet.specs.Faults.{Failed, fault_of}
 use Rattle.sheet.specs.Grammar.{Content, IsCallLine, IsFieldLine, IsSection, IsSheet}
 use Rattle.sheet.specs.Limits.{longest_sheet, most_calls, most_moduli}
-use Rattle.sheet.specs.Refusals.{SheetTold, first_without, moduli_codes}
+use Rattle.sheet.specs.BadLines.{first_without}
+use Rattle.sheet.specs.Refusals.{SheetTold, moduli_codes}
 use Rattle.sheet.specs.Sections.{AnyField, AnyModuli, ModuliRead, codes_in}
 use Rattle.sheet.specs.Sequences.{Any}
 use Rattle.sheet.specs.declared.lines.LineFault.{LineFault}

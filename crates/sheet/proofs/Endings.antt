@@ -4,19 +4,19 @@ use lib.ListN.{length-replicate}
 use Rattle.std.proofs.lemmas.List.Edits.{between_more}
 use Rattle.std.proofs.lemmas.Bool.Decides.{nat_tests}
 use Rattle.std.specs.List.{between}
-use Rattle.expression.specs.Bytes.{Digit, first_digit, line_end}
+use Rattle.expression.specs.Bytes.{Digit, blank_byte, first_digit, line_end}
 use Rattle.expression.specs.Texts.{Got, Lost}
 use Rattle.rack.specs.Ledger.{Request, closes, measures, opens, puts, reads, strikes}
 use Rattle.sheet.specs.CallLines.{AnyCallLine}
 use Rattle.sheet.specs.CallNames.{least_numbers, most_numbers}
 use Rattle.sheet.specs.CallNumbers.{NoBlank, NoDigit, NumbersAt, NumbersLost}
 use Rattle.sheet.specs.CallTexts.{Says, TextAt, says_close, says_measure, says_open, says_put, says_read, says_strike}
-use Rattle.sheet.specs.Grammar.{IsCallLine, IsCallNumber, Numbers, blank_byte, no_numbers, number_more}
+use Rattle.sheet.specs.Grammar.{IsCallLine, IsCallNumber, Numbers, no_numbers, number_more}
 use Rattle.sheet.specs.Sequences.{After}
 use Rattle.sheet.specs.declared.call_names.CallName.{CallName}
 use Rattle.sheet.specs.declared.call_names.CallName.TheVariants.{Close, Measure, Open, Put, Read, Strike}
 use Rattle.sheet.proofs.Between.{part_join}
-use Rattle.sheet.proofs.CallParts.{AnyTail, Named, from_named, says_counts, to_named, told_name, whole_line}
+use Rattle.sheet.proofs.CallParts.{AnyTail, IsName, from_named, says_counts, to_named, told_name, whole_line}
 use Rattle.sheet.proofs.Chains.{got_lost, lost_first, lost_like}
 use Rattle.sheet.proofs.Machine.{after, dead, run, sign, step, wants}
 use Rattle.sheet.proofs.CallRows.{numbers_join, row_length, row_numbers}
@@ -140,18 +140,18 @@ tail_stuck {name} {s} {i} {j} text none =
     stops_after name s i j text.ns text.numbers (says_counts text.says).1 (λ h b few. (text.shut few).1 h b) (λ h b _. none h b)
 
 -- What fails after a name fails on the line.
-after_name : {name : CallName} {s : List ℕ} {i j p : ℕ} → Got (Named name) s i j → Lost (AnyTail name) s j p → Lost AnyCallLine s i p
+after_name : {name : CallName} {s : List ℕ} {i j p : ℕ} → Got (IsName name) s i j → Lost (AnyTail name) s j p → Lost AnyCallLine s i p
 after_name {name} {s} {i} {j} {p} named h =
-    lost_like (After Named AnyTail) AnyCallLine s i p from_named to_named (got_lost Named AnyTail told_name s name i j p named h)
+    lost_like (After IsName AnyTail) AnyCallLine s i p from_named to_named (got_lost IsName AnyTail told_name s name i j p named h)
 
 -- Where no name goes on, no line does.
-pub name_lost : (s : List ℕ) (i p : ℕ) → Lost (λ x. (name : CallName) × Named name x) s i p → Lost AnyCallLine s i p
+pub name_lost : (s : List ℕ) (i p : ℕ) → Lost (λ x. (name : CallName) × IsName name x) s i p → Lost AnyCallLine s i p
 name_lost s i p h =
-    lost_like (After Named AnyTail) AnyCallLine s i p from_named to_named
-    (lost_first Named AnyTail told_name s (λ name. completes name no_numbers (omega arith)) i p h)
+    lost_like (After IsName AnyTail) AnyCallLine s i p from_named to_named
+    (lost_first IsName AnyTail told_name s (λ name. completes name no_numbers (omega arith)) i p h)
 
 -- The line ends after its numbers.
-pub line_got : {name : CallName} {s : List ℕ} {i w j : ℕ} {r : Request} → Got (Named name) s i w → TextAt name s w j r
+pub line_got : {name : CallName} {s : List ℕ} {i w j : ℕ} {r : Request} → Got (IsName name) s i w → TextAt name s w j r
     → j < length s → get_or s j 0 ≡ line_end → Got (λ x. IsCallLine x r) s i (j + 1)
 line_got {name} {s} {i} {w} {j} {r} named text h e =
     let (a, b) = row_length text.numbers in
@@ -171,9 +171,9 @@ line_got {name} {s} {i} {w} {j} {r} named text h e =
     }
 
 -- The line is lost in the numbers after its name; or it does not end after them.
-pub text_lost : (name : CallName) {s : List ℕ} {i w p : ℕ} → Got (Named name) s i w → NumbersLost (least_numbers name) (most_numbers name) s w p → Lost AnyCallLine s i p
+pub text_lost : (name : CallName) {s : List ℕ} {i w p : ℕ} → Got (IsName name) s i w → NumbersLost (least_numbers name) (most_numbers name) s w p → Lost AnyCallLine s i p
 text_lost name named lost = after_name named (tail_cut name lost)
 
-pub end_lost : {name : CallName} {s : List ℕ} {i w j p : ℕ} {r : Request} → Got (Named name) s i w → TextAt name s w j r
+pub end_lost : {name : CallName} {s : List ℕ} {i w j p : ℕ} {r : Request} → Got (IsName name) s i w → TextAt name s w j r
     → (j < length s → get_or s j 0 ≡ line_end → ⊥) → p ≡ j → Lost AnyCallLine s i p
 end_lost {s = s} {i = i} named text none is = subst (Lost AnyCallLine s i) (sym is) (after_name named (tail_stuck text none))

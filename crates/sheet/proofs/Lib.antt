@@ -1,14 +1,17 @@
+mod BadLines
 mod Between
 mod CallParts
 mod CallRows
 mod Calls
 mod Chains
 mod Contents
+mod CountDigits
 mod Decimals
 mod Drafting
 mod Ended
 mod Endings
 mod Exits
+mod FieldNames
 mod FieldSections
 mod LineKinds
 mod Loops

@@ -1,5 +1,5 @@
 -- The kinds of lines: each line holds byte 10 at its end only, and there is one of each kind.
-use Rattle.std.proofs.Common.{◌≡◌, ℕ, cond, eqb, List, [], ◌∷◌, get_or, ◌++◌, codes, sym, refl, ap, ◌∙◌, append_assoc, arith, lit≤, rules}
+use Rattle.std.proofs.Common.{◌≡◌, ℕ, List, [], ◌∷◌, get_or, ◌++◌, codes, sym, refl, ap, ◌∙◌, append_assoc, arith, lit≤, rules}
 use Rattle.std.proofs.ByRecursion.{All-weaker}
 use Rattle.std.specs.List.{AllByRecursion}
 use Rattle.expression.specs.Bytes.{Digit, line_end}
@@ -19,6 +19,7 @@ use Rattle.sheet.specs.declared.call_names.CallName.{CallName}
 use Rattle.sheet.specs.declared.call_names.CallName.TheVariants.{Close, Measure, Open, Put, Read, Strike}
 use Rattle.sheet.proofs.CallParts.{call_parts}
 use Rattle.sheet.proofs.Ended.{Ended, Plain, plain_append, told_lines}
+use Rattle.sheet.proofs.FieldNames.{named_by, names}
 use Rattle.sheet.proofs.OneCall.{one_call}
 use Rattle.sheet.proofs.Rows.{SectionKind}
 
@@ -68,17 +69,8 @@ call_ended line =
       is = p.is ∙ (ap (λ u. word p.name ++ u) t.is ∙ sym (append_assoc (word p.name) t.text (line_end ∷ [])));
     }
 
--- The field that a line names, by its second letter.
-abbrev named_by : ℕ → FieldName
-named_by b = cond (eqb b 105) Bits (cond (eqb b 121) Bytes Clock)
-
-names : (name : FieldName) → named_by (get_or (field_word name ++ line_end ∷ []) 1 0) ≡ name
-names Bits = refl
-names Bytes = refl
-names Clock = refl
-
 one_field : (a b : FieldName) (x : List ℕ) → IsFieldLine x a → IsFieldLine x b → a ≡ b
-one_field a b x e f = sym (names a) ∙ (ap (λ l. named_by (get_or l 1 0)) (sym e ∙ f) ∙ names b)
+one_field a b x e f = sym (names a (line_end ∷ [])) ∙ (ap (λ l. named_by (get_or l 1 0)) (sym e ∙ f) ∙ names b (line_end ∷ []))
 
 pub field_kind : SectionKind IsFieldLine 1 1
 field_kind = record {

@@ -1,9 +1,8 @@
 -- A machine that follows a line with a call byte by byte, from the end of the name on. It serves to show that after some bytes no such
 -- line goes on.
 use Rattle.std.proofs.Common.{ℕ, zero, suc, Bool, cond, ◌&&◌, eqb, ltb, leb, List, [], ◌∷◌}
-use Rattle.expression.specs.Bytes.{first_digit, last_digit, line_end}
+use Rattle.expression.specs.Bytes.{blank_byte, first_digit, last_digit, line_end}
 use Rattle.sheet.specs.CallNames.{least_numbers, most_numbers}
-use Rattle.sheet.specs.Grammar.{blank_byte}
 use Rattle.sheet.specs.declared.call_names.CallName.{CallName}
 
 -- After k numbers, the last of which may have so many digits more; after a blank; after the line; where no line goes on.

@@ -5,7 +5,8 @@ use Rattle.std.specs.Option.{option_or}
 use Rattle.std.specs.List.{flat_map}
 use Rattle.algebra.specs.Field.{Arithmetic}
 use Rattle.expression.specs.Values.{Expression, Value, value}
-use Rattle.sheet.specs.Refusals.{codes_after, first_without, line_unless, moduli_codes}
+use Rattle.sheet.specs.BadLines.{first_without, line_unless}
+use Rattle.sheet.specs.Refusals.{codes_after, moduli_codes}
 use Rattle.sheet.specs.Sections.{Keeps, Noted, codes_in}
 use Rattle.sheet.specs.declared.moduli.Moduli.{Moduli}
 

@@ -2,11 +2,11 @@
 use Rattle.std.proofs.Common.{◌≡◌, ℕ, List, [], ◌∷◌, ◌++◌, sym, refl, ap, ◌∙◌, subst, arith}
 use Rattle.std.proofs.lemmas.List.{append_cancel_right}
 use Rattle.std.specs.List.{AllByRecursion}
-use Rattle.expression.specs.Bytes.{Digit, line_end}
+use Rattle.expression.specs.Bytes.{Digit, blank_byte, line_end}
 use Rattle.expression.specs.Grammar.{numeral}
 use Rattle.rack.specs.Ledger.{Request}
 use Rattle.sheet.specs.CallTexts.{Says}
-use Rattle.sheet.specs.Grammar.{IsCallLine, Numbers, blank_byte, no_numbers, number_more}
+use Rattle.sheet.specs.Grammar.{IsCallLine, Numbers, no_numbers, number_more}
 use Rattle.sheet.specs.declared.call_names.CallName.{CallName}
 use Rattle.sheet.proofs.CallParts.{Tail, call_parts, says_one, told_name}
 

@@ -6,7 +6,10 @@ use Rattle.std.proofs.lemmas.Bool.Decides.{nat_tests}
 use Rattle.std.specs.Borrow.{Bor}
 use Rattle.std.specs.List.{AllByRecursion, between}
 use Rattle.expression.specs.Texts.{Got, Lost}
-use Rattle.sheet.specs.Tables.{AnyWord, IsWord, common, words}
+use Rattle.expression.specs.Tokens.{PartAt}
+use Rattle.expression.specs.declared.parts.Part.{Part}
+use Rattle.sheet.specs.Tables.{AnyWord, IsWord, NamedAt, common, words}
+use Rattle.sheet.specs.declared.words.Named.{Named}
 use Rattle.sheet.proofs.Between.{part_join}
 use Rattle.sheet.proofs.Chains.{dies, lost, lost_like}
 
@@ -35,7 +38,7 @@ is_common (b ∷ x) (c ∷ word) = common_more b c x word (b == c) refl (is_comm
 -- The same from a place of a sheet on.
 pub record Matches (s : List ℕ) (i : ℕ) (word : List ℕ) (n : ℕ) : Type 0 where
   few : n ≤ length word
-  within : i + n ≤ length s
+  pub within : i + n ≤ length s
   same : between i (i + n) s ≡ take n word
   stops : n < length word → i + n < length s → ¬ (get_or s (i + n) 0 ≡ get_or word n 0)
 
@@ -102,13 +105,13 @@ either_way L M s i p q h k = go split
 
 module _ {T : Type 0} where
   pub written : (table : List (Bor (List ℕ) × T)) (e : Bor (List ℕ) × T) (s : List ℕ) (i k n : ℕ) → k < length table → e ≡ get_or table k e
-      → Matches s i e.0.now n → n ≡ length e.0.now → Got (λ x. IsWord table x e.1) s i (i + n)
-  written table e s i k n lt is m all = record {
-    more = omega arith;
-    within = m.within;
-    is = subst (λ x. IsWord table x e.1) (sym (m.same ∙ take_all n e.0.now (omega arith)))
-        (record { listed = (k, within, at) });
-  }
+      → Matches s i e.0.now n → n ≡ length e.0.now → {part : Part} → part.place ≡ i → part.text.now ≡ between i (i + n) s
+      → part.place + length part.text.now ≡ i + n → PartAt s i part × IsWord table part.text.now e.1
+  written table e s i k n lt is m all {part} here text ends =
+      let count : n ≡ length part.text.now = omega (arith, ends, here) in (
+        record { here = here; within = omega (arith, m.within); is = text ∙ ap (λ l. between i (i + l) s) count },
+        subst (λ x. IsWord table x e.1) (sym (text ∙ (m.same ∙ take_all n e.0.now (omega arith)))) (record { listed = (k, within, at) }),
+      )
     where
       within : k < length (words table)
       within = let many = length-map {B = List ℕ × T} table (λ e. (e.0.now, e.1)) in omega arith
@@ -157,6 +160,17 @@ module _ {T : Type 0} where
       go zero none some = let far : i + n ≡ i + max f n = omega (arith, none refl) in subst (Lost (AnyWord (e ∷ [])) s i) far (first_word e s i n failed)
       go (suc k) none some = words_more (take (suc k) table) e s i f n (some (omega arith)) failed
 
+-- Where a word stands, a text of its language does.
+pub named_got : {T : Type 0} (Is : List ℕ → T → Type 0) {s : List ℕ} {i j : ℕ} {named : Named T} → NamedAt Is s i named
+    → j ≡ named.word.place + length named.word.text.now → Got (λ x. Is x named.value) s i j
+named_got Is {s} {i} {j} {named} (part, is) ends =
+    let end : i + length named.word.text.now ≡ j = omega (arith, part.here) in
+    record {
+      more = omega (arith, part.here);
+      within = omega (arith, part.here, part.within);
+      is = subst (λ x. Is x named.value) (part.is ∙ ap (λ m. between i m s) end) is;
+    }
+
 -- What every word of a table stands for, and that it has all of them.
 pub record Spells {T : Type 0} (table : List (Bor (List ℕ) × T)) (spelled : T → List ℕ) : Type 0 where
   pub each : AllByRecursion (λ (p : List ℕ × T). p.0 ≡ spelled p.1) (words table)
@@ -166,8 +180,8 @@ module _ {T : Type 0} {table : List (Bor (List ℕ) × T)} {spelled : T → List
   is_spelled : (x : List ℕ) (v : T) → IsWord table x v → x ≡ spelled v
   is_spelled x v w = All-contains (λ (p : List ℕ × T). p.0 ≡ spelled p.1) (words table) (x, v) (All-from_recursion _ (words table) h.each) w.listed
 
-  pub spelled_got : {s : List ℕ} {i j : ℕ} {v : T} → Got (λ x. IsWord table x v) s i j → Got (λ x. x ≡ spelled v) s i j
-  spelled_got {s} {i} {j} {v} g = record { more = g.more; within = g.within; is = is_spelled _ v g.is }
+  pub spelled_got : {s : List ℕ} {i : ℕ} {named : Named T} → NamedAt (IsWord table) s i named → NamedAt (λ x v. x ≡ spelled v) s i named
+  spelled_got {named = named} (part, is) = (part, is_spelled _ named.value is)
 
   pub spelled_lost : {s : List ℕ} {i p : ℕ} → Lost (AnyWord table) s i p → Lost (λ x. (v : T) × (x ≡ spelled v)) s i p
   spelled_lost {s} {i} {p} =

@@ -3,11 +3,11 @@ use Rattle.std.proofs.Common.{◌≡◌, ℕ, zero, suc, ◌+◌, ◌-◌, ◌<�
 use Rattle.std.proofs.lemmas.List.Edits.{between_more, between_none}
 use Rattle.std.proofs.lemmas.Bool.Decides.{nat_tests}
 use Rattle.std.specs.List.{between, AllByRecursion}
-use Rattle.expression.specs.Bytes.{Digit, line_end}
+use Rattle.expression.specs.Bytes.{Digit, blank_byte, line_end}
 use Rattle.expression.specs.Texts.{Lost}
 use Rattle.sheet.specs.CallNames.{least_numbers, most_numbers}
 use Rattle.sheet.specs.CallNumbers.{NumbersAt, none_at, one_more_at}
-use Rattle.sheet.specs.Grammar.{IsCallNumber, Numbers, blank_byte, no_numbers, number_more}
+use Rattle.sheet.specs.Grammar.{IsCallNumber, Numbers, no_numbers, number_more}
 use Rattle.sheet.specs.declared.call_names.CallName.{CallName}
 use Rattle.sheet.proofs.Between.{part_join}
 use Rattle.sheet.proofs.CallParts.{AnyTail, says_counts}

@@ -1,3 +1,4 @@
+-- Inner: no public contract cites this.
 -- What reading a line with a call answers.
 use Rattle.std.specs.Prelude.{ℕ, List, MatchResult, Result}
 use Rattle.expression.specs.Texts.{Got, Lost}

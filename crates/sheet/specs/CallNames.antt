@@ -1,12 +1,14 @@
+-- Inner: no public contract cites this.
 -- The names of the calls, how many numbers follow each, and what reading a name answers.
 use Rattle.std.specs.Prelude.{◌≡◌, ℕ, ◌+◌, List, codes, MatchResult, Result}
-use Rattle.expression.specs.Texts.{Got, Lost}
-use Rattle.expression.specs.declared.parsed.Parsed.{Parsed}
+use Rattle.expression.specs.Texts.{Lost}
 use Rattle.expression.specs.declared.parsed.Stop.{Stop}
 use Rattle.sheet.specs.CallLines.{AnyCallLine}
 use Rattle.sheet.specs.Limits.{most_measure_codes, most_put_codes}
+use Rattle.sheet.specs.Tables.{NamedAt}
 use Rattle.sheet.specs.declared.call_names.CallName.{CallName}
 use Rattle.sheet.specs.declared.call_names.CallName.TheVariants.{Close, Measure, Open, Put, Read, Strike}
+use Rattle.sheet.specs.declared.words.Named.{Named}
 
 abbrev pub word : CallName → List ℕ
 word Open = codes "open"
@@ -34,5 +36,5 @@ most_numbers Measure = 2 + most_measure_codes
 most_numbers Close = 2
 
 -- From i on stands a name; or the first place where no line with a call goes on.
-abbrev pub NameTold : List ℕ → ℕ → Result (Parsed CallName) Stop → Type 0
-NameTold s i r = MatchResult r (λ name. Got (λ x. x ≡ word name.value) s i name.end) (λ stop. Lost AnyCallLine s i stop.place)
+abbrev pub NameTold : List ℕ → ℕ → Result (Named CallName) Stop → Type 0
+NameTold s i r = MatchResult r (NamedAt (λ x name. x ≡ word name) s i) (λ stop. Lost AnyCallLine s i stop.place)

@@ -1,14 +1,15 @@
+-- Inner: no public contract cites this.
 -- What reading the numbers of a call answers.
 use Rattle.std.specs.Prelude.{◌≡◌, ℕ, ◌+◌, ◌<◌, ◌≤◌, ◌⊎◌, List, [], ◌∷◌, ◌++◌, length, MatchResult, vec_items, Result, ◌≢◌, slice_index}
 use Rattle.std.specs.Global.{Vec}
 use Rattle.std.specs.List.{between}
-use Rattle.expression.specs.Bytes.{Digit}
+use Rattle.expression.specs.Bytes.{Digit, blank_byte}
 use Rattle.expression.specs.Grammar.{numeral}
 use Rattle.expression.specs.declared.parsed.Parsed.{Parsed}
 use Rattle.expression.specs.declared.parsed.Stop.{Stop}
 use Rattle.expression.specs.declared.parts.Part.{Part}
 use Rattle.sheet.specs.Faults.{Failed}
-use Rattle.sheet.specs.Grammar.{IsCallNumber, blank_byte}
+use Rattle.sheet.specs.Grammar.{IsCallNumber}
 use Rattle.sheet.specs.Limits.{most_call_digits}
 use Rattle.sheet.specs.declared.lines.LineFault.{LineFault}
 use Rattle.sheet.specs.declared.numbers.Heading.{Heading}

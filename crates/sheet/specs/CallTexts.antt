@@ -1,3 +1,4 @@
+-- Inner: no public contract cites this.
 -- What reading the numbers of a call answers, by the call's name.
 use Rattle.std.specs.Prelude.{ℕ, ◌≤◌, List, [], ◌∷◌, length, MatchResult, Result}
 use Rattle.expression.specs.declared.parsed.Parsed.{Parsed}

@@ -1,3 +1,4 @@
+-- Inner: no public contract cites this.
 -- What reading the four sections answers.
 use Rattle.std.specs.Prelude.{◌≡◌, ℕ, List, ◌++◌, map, length, Some, None, MatchResult, vec_items, Result}
 use Rattle.expression.specs.Fields.{arithmetic_of}
@@ -6,7 +7,8 @@ use Rattle.expression.specs.declared.parsed.Parsed.{Parsed}
 use Rattle.rack.specs.Racks.{given_by}
 use Rattle.sheet.specs.Faults.{Failed}
 use Rattle.sheet.specs.Grammar.{Content, IsSheet}
-use Rattle.sheet.specs.Refusals.{bad_line, moduli_codes}
+use Rattle.sheet.specs.BadLines.{bad_line}
+use Rattle.sheet.specs.Refusals.{moduli_codes}
 use Rattle.sheet.specs.Sequences.{Any}
 use Rattle.sheet.specs.declared.lines.LineFault.{LineFault}
 use Rattle.sheet.specs.declared.reading.Draft.{Draft}

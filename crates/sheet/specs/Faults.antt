@@ -1,3 +1,4 @@
+-- Inner: no public contract cites this.
 -- What the fault of a line tells.
 use Rattle.std.specs.Prelude.{ℕ}
 use Rattle.sheet.specs.declared.faults.SheetFault.{SheetFault}

@@ -1,7 +1,7 @@
 -- How a sheet is written: lines that each end in byte 10, in four sections, each after its count on a line of its own: the field, the
 -- carrying moduli, the spare moduli and the calls. Nothing follows the last section.
 use Rattle.std.specs.Prelude.{◌≡◌, ℕ, ◌≤◌, List, [], ◌∷◌, ◌++◌, length, codes, decimal}
-use Rattle.expression.specs.Bytes.{line_end}
+use Rattle.expression.specs.Bytes.{blank_byte, line_end}
 use Rattle.expression.specs.Fields.{field_word}
 use Rattle.expression.specs.Grammar.{IsModulusLine, IsNumeral, numeral}
 use Rattle.expression.specs.Values.{Expression}
@@ -38,9 +38,6 @@ pub record IsSection {X : Type 0} (least most : ℕ) (L : List ℕ → X → Typ
 -- A line that names a field.
 abbrev pub IsFieldLine : List ℕ → FieldName → Type 0
 IsFieldLine line name = line ≡ field_word name ++ line_end ∷ []
-
-abbrev pub blank_byte : ℕ
-blank_byte = 32
 
 -- A number of a call: one to four digits.
 abbrev pub IsCallNumber : List ℕ → Type 0

@@ -1,3 +1,4 @@
+pub mod BadLines
 pub mod CallLines
 pub mod CallNames
 pub mod CallNumbers

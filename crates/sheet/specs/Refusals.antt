@@ -1,5 +1,5 @@
 -- When a sheet is refused, and where; and what an accepted one gives.
-use Rattle.std.specs.Prelude.{◌≡◌, ℕ, suc, ◌+◌, ◌<◌, ◌≤◌, List, [], ◌∷◌, ◌++◌, map, length, take, Some, None, Ok, Err, vec_items, Option, Result}
+use Rattle.std.specs.Prelude.{◌≡◌, ℕ, ◌+◌, ◌<◌, ◌≤◌, List, [], ◌∷◌, ◌++◌, map, length, take, Some, None, Ok, Err, vec_items, Option, Result}
 use Rattle.fault.specs.declared.Ground.{Ground}
 use Rattle.fault.specs.declared.Layer.TheVariants as layer
 use Rattle.algebra.specs.Field.{Arithmetic}
@@ -23,21 +23,28 @@ pub record StopsAt (bytes : List ℕ) (p : ℕ) : Type 0 where
   pub viable : Viable (take p bytes)
   pub longest : (k : ℕ) → p < k → k ≤ length bytes → ¬ (Viable (take k bytes))
 
--- The line of the first expression that has no value over f, where the first of them stands on line n.
-abbrev pub line_unless : Value → ℕ → Option ℕ → Option ℕ
-line_unless None n later = Some n
-line_unless (Some codes) n later = later
+-- The modulus that stands on a line of a sheet, lines being counted from 0. Before the carrying moduli stand three lines: the count and the
+-- name of the field, and their own count; before the spare ones stand those, the carrying moduli and a count more.
+pub data OnLine (content : Content) : ℕ → Expression → Type 0 where
+  among_carrying : (before after : List Expression) {e : Expression} → content.carrying ≡ before ++ (e ∷ after)
+      → OnLine content (3 + length before) e
+  among_spare : (before after : List Expression) {e : Expression} → content.spare ≡ before ++ (e ∷ after)
+      → OnLine content (3 + length content.carrying + 1 + length before) e
 
-abbrev pub first_without : Arithmetic → ℕ → List Expression → Option ℕ → Option ℕ
-first_without f n [] later = later
-first_without f n (e ∷ es) later = line_unless (value f e) n (first_without f (suc n) es later)
+-- A modulus has no value over the sheet's field.
+abbrev pub NoValue : Content → Expression → Type 0
+NoValue content e = value (arithmetic_of content.field) e ≡ None
 
--- The first line of the sheet, counted from 0, whose modulus has no value. Before the carrying moduli stand three lines: the count and
--- the name of the field, and their own count; before the spare ones stand those, the carrying moduli and a count more.
-abbrev pub bad_line : Content → Option ℕ
-bad_line content =
-    first_without (arithmetic_of content.field) 3 content.carrying
-    (first_without (arithmetic_of content.field) (3 + length content.carrying + 1) content.spare None)
+-- Every modulus has a value.
+abbrev pub AllValued : Content → Type 0
+AllValued content = (line : ℕ) (e : Expression) → OnLine content line e → ¬ (NoValue content e)
+
+-- The first line whose modulus has no value.
+pub record FirstBadLine (content : Content) (line : ℕ) : Type 0 where
+  pub modulus : Expression
+  pub there : OnLine content line modulus
+  pub bad : NoValue content modulus
+  pub before : (l : ℕ) (e : Expression) → l < line → OnLine content l e → ¬ (NoValue content e)
 
 -- The codes of moduli, nine to each, one after the other; none where one of them has no value.
 abbrev pub codes_after : Value → Option (List ℕ) → Option (List ℕ)
@@ -60,11 +67,11 @@ pub record Gives (sheet : Sheet) (content : Content) : Type 0 where
 -- of the grounds 1 to 3 that holds, with its place. Want of memory is the one other answer, and never where ground 1 holds.
 abbrev pub SheetTold : List ℕ → Result Sheet SheetFault → Type 0
 SheetTold bytes (Ok sheet) =
-    (length bytes ≤ longest_sheet) × ((content : Content) × IsSheet bytes content × (bad_line content ≡ None) × Gives sheet content)
+    (length bytes ≤ longest_sheet) × ((content : Content) × IsSheet bytes content × AllValued content × Gives sheet content)
 SheetTold bytes (Err TooLong) = longest_sheet < length bytes
 SheetTold bytes (Err (NotASheet place)) = (length bytes ≤ longest_sheet) × StopsAt bytes place
 SheetTold bytes (Err (NoModulus line)) =
-    (length bytes ≤ longest_sheet) × ((content : Content) × IsSheet bytes content × (bad_line content ≡ Some line))
+    (length bytes ≤ longest_sheet) × ((content : Content) × IsSheet bytes content × FirstBadLine content line)
 SheetTold bytes (Err NoMemory) = length bytes ≤ longest_sheet
 
 -- Number, layer and places.

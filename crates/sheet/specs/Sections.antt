@@ -1,3 +1,4 @@
+-- Inner: no public contract cites this.
 -- What the readers of sections answer.
 use Rattle.std.specs.Prelude.{◌≡◌, ℕ, List, [], ◌∷◌, ◌++◌, map, length, Some, None, MatchResult, vec_items, Result}
 use Rattle.std.specs.Option.{option_or}
@@ -14,7 +15,7 @@ use Rattle.rack.specs.Racks.{given_by}
 use Rattle.sheet.specs.Faults.{Failed}
 use Rattle.sheet.specs.Grammar.{IsCallLine, IsFieldLine, IsSection}
 use Rattle.sheet.specs.Limits.{least_moduli, most_calls, most_moduli}
-use Rattle.sheet.specs.Refusals.{first_without, line_unless}
+use Rattle.sheet.specs.BadLines.{first_without, line_unless}
 use Rattle.sheet.specs.Sequences.{Any}
 use Rattle.sheet.specs.declared.lines.LineFault.{LineFault}
 use Rattle.sheet.specs.declared.moduli.Moduli.{Moduli}

@@ -1,3 +1,4 @@
+-- Inner: no public contract cites this.
 -- Texts one after the other: a language is a property of lists of bytes.
 use Rattle.std.specs.Prelude.{◌≡◌, ℕ, zero, suc, List, [], ◌++◌}
 use Rattle.expression.specs.Texts.{Lost}

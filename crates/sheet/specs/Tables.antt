@@ -1,7 +1,10 @@
+-- Inner: no public contract cites this.
 -- Words of a table, and how far a text goes along one of them.
 use Rattle.std.specs.Prelude.{◌==◌, ℕ, List, map, Contains}
 use Rattle.std.specs.Borrow.{Bor}
 use Rattle.std.specs.List.{prefix_len, zip}
+use Rattle.expression.specs.Tokens.{PartAt}
+use Rattle.sheet.specs.declared.words.Named.{Named}
 
 -- How many bytes two texts have in common from the front on.
 abbrev pub common : List ℕ → List ℕ → ℕ
@@ -14,6 +17,10 @@ words {T} table = map {B = List ℕ × T} (λ e. (e.0.now, e.1)) table
 -- A word of the table, and what it stands for.
 pub record IsWord {T : Type 0} (table : List (Bor (List ℕ) × T)) (x : List ℕ) (v : T) : Type 0 where
   pub listed : Contains (words table) (x, v)
+
+-- A word that stands at i as its part tells, and what it stands for.
+abbrev pub NamedAt : {T : Type 0} → (List ℕ → T → Type 0) → List ℕ → ℕ → Named T → Type 0
+NamedAt Is s i named = PartAt s i named.word × Is named.word.text.now named.value
 
 abbrev pub AnyWord : {T : Type 0} → List (Bor (List ℕ) × T) → List ℕ → Type 0
 AnyWord {T} table x = (v : T) × IsWord table x v

@@ -6,12 +6,12 @@ ghost use Rattle.sheet.specs.CallNumbers.{HeadingAt};
 ghost use Rattle.sheet.specs.CallTexts.{TextTold};
 ghost use Rattle.sheet.specs.declared.call_names.CallName.TheVariants.{Measure, Put, Strike};
 
-use crate::bytes::past;
 use crate::call_names::{CallName, call_name};
 use crate::limits::{MOST_MEASURE_CODES, MOST_PUT_CODES};
 use crate::lines::LineFault;
 use crate::numbers::{Heading, channel_and_slot, code_row, number};
-use expression::{Cursor, LINE_END, Parsed};
+use crate::signs::expected_sign;
+use expression::{Cursor, Parsed, Sign};
 use rack::Call;
 use std::alloc::Global;
 
@@ -91,10 +91,10 @@ pub(crate) fn call_line(heap: Global, from: Cursor) -> Result<Parsed<Call>, Line
     ensures { Here from.entry (λ s i. CallTold s i result) }
 {
     let name = call_name(from)?;
-    let call = call_text(heap, name.value, from.at(name.end))?;
-    let end = past(from.at(call.end), LINE_END)?;
+    let call = call_text(heap, name.value, from.at(name.word.end()))?;
+    let sign = expected_sign(from.at(call.end), Sign::LineEnd)?;
     Ok(Parsed {
         value: call.value,
-        end,
+        end: sign.end(),
     })
 }

@@ -2,8 +2,8 @@
 ghost use Rattle.expression.specs.Cursors.{Here};
 ghost use Rattle.sheet.specs.CallNames.{NameTold};
 
-use crate::words::one_of;
-use expression::{Cursor, Parsed, Stop};
+use crate::words::{Named, one_of};
+use expression::{Cursor, Stop};
 
 /// The six calls by their names.
 #[derive(Clone, Copy)]
@@ -27,7 +27,7 @@ const CALL_NAMES: [(&[u8], CallName); 6] = [
 ];
 
 /// The call that is named here. No two names begin with the same letter, so it stops where no call goes on.
-pub(crate) fn call_name(from: Cursor) -> Result<Parsed<CallName>, Stop>
+pub(crate) fn call_name<'a>(from: Cursor<'a>) -> Result<Named<'a, CallName>, Stop>
     ensures { Here from.entry (λ s i. NameTold s i result) }
 {
     one_of(from, &CALL_NAMES)

@@ -1,7 +1,6 @@
 //! The sheet, on which a laboratory writes its plan and its calls: exactly the lawful ones are read.
 #![tactic(auto)]
 
-mod bytes;
 mod call_lines;
 mod call_names;
 mod counts;
@@ -14,6 +13,7 @@ mod numbers;
 mod reading;
 mod sections;
 mod sheets;
+mod signs;
 mod theorems;
 mod words;
 

@@ -14,6 +14,9 @@ pub(crate) struct Counts {
     ghost few: { most ≤ 99 },
 }
 
+/// So every count is written with at most this many digits.
+pub(crate) const MOST_COUNT_DIGITS: usize = 2;
+
 /// Every sheet names one field.
 pub(crate) const FIELDS: Counts = Counts { least: 1, most: 1 };
 

@@ -2,14 +2,11 @@
 ghost use Rattle.expression.specs.Cursors.{Here};
 ghost use Rattle.sheet.specs.CallNumbers.{CodesTold, DigitsTold, HeadingTold, NumberTold};
 
-use crate::bytes::past;
 use crate::limits::MOST_CALL_DIGITS;
 use crate::lines::LineFault;
-use expression::{Cursor, Parsed, Part, Stop, digits_end, numeral_of};
+use crate::signs::expected_sign;
+use expression::{Cursor, Parsed, Part, Sign, Stop, digits_end, numeral_of, sign_at};
 use std::alloc::Global;
-
-/// What stands before each number.
-const BLANK: u8 = b' ';
 
 /// The two numbers that every call begins with.
 #[derive(Clone, Copy)]
@@ -23,7 +20,8 @@ pub(crate) struct Heading {
 fn digits<'a>(from: Cursor<'a>) -> Result<Part<'a>, Stop>
     ensures { Here from.entry (λ s i. DigitsTold s i result) }
 {
-    let first = from.at(past(from, BLANK)?);
+    let blank = expected_sign(from, Sign::Blank)?;
+    let first = from.at(blank.end());
     let place = first.place;
     let end = digits_end::<MOST_CALL_DIGITS>(first);
     if end == place {
@@ -70,7 +68,7 @@ pub(crate) fn code_row(
     let mut codes = Vec::new(heap);
     let mut end = from.place;
     // How many come shows only as they are read, so there is nothing to iterate over.
-    while codes.len() < most && from.at(end).stands(BLANK) {
+    while codes.len() < most && sign_at(from.at(end), Sign::Blank).is_some() {
         let code = number(from.at(end))?;
         codes.push(code.value)?;
         end = code.end;

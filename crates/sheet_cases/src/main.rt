@@ -6,6 +6,7 @@ ghost use Rattle.std.specs.Prelude.{◌<◌, IfOk};
 
 use anyhow::anyhow;
 use fault::Fault;
+use numbers::Numbers;
 use rack::Call;
 use sheet::{Sheet, read_sheet};
 use std::fmt;
@@ -31,19 +32,6 @@ fn bytes_of(rt: &HostRuntime, line: &str) -> anyhow::Result<Vec<u8>> {
         bytes.push(sixteenth(*high)? * 16 + sixteenth(*low)?)?;
     }
     Ok(bytes)
-}
-
-/// Numbers, each after a blank. The programs that show numbers so have one each, since none stands on another.
-#[derive(Clone, Copy)]
-struct Numbers<'a>(&'a [u16]);
-
-impl<'a> fmt::Display for Numbers<'a> {
-    fn fmt<W: fmt::Write>(&self, f: &mut fmt::Formatter<W>) -> fmt::Result {
-        for number in self.0 {
-            write!(f, " {number}")?;
-        }
-        Ok(())
-    }
 }
 
 /// A call as a sheet writes it.

@@ -15,14 +15,14 @@ decreases-term l = 3 * l.scope.left + 1
 abbrev pub decreases-sum : goal.decreases-sum
 decreases-sum l = 3 * l.scope.left + 2
 
-abbrev pub invariant-sum-loop-scope : goal.invariant-sum-loop-scope
-invariant-sum-loop-scope l = Reading sum term (arithmetic_of l.scope.field) l.scope.left l.from.sheet.now l.from.place l.whole.end l.whole.value
+abbrev pub invariant-sum-loop-sign : goal.invariant-sum-loop-sign
+invariant-sum-loop-sign l = Reading sum term (arithmetic_of l.scope.field) l.scope.left l.from.sheet.now l.from.place l.whole.end l.whole.value
 
-abbrev pub decreases-sum-loop-scope : goal.decreases-sum-loop-scope
-decreases-sum-loop-scope l = length l.from.sheet.now - l.whole.end
+abbrev pub decreases-sum-loop-sign : goal.decreases-sum-loop-sign
+decreases-sum-loop-sign l = length l.from.sheet.now - l.whole.end
 
-abbrev pub invariant-term-loop-scope : goal.invariant-term-loop-scope
-invariant-term-loop-scope l = Reading term factor (arithmetic_of l.scope.field) l.scope.left l.from.sheet.now l.from.place l.whole.end l.whole.value
+abbrev pub invariant-term-loop-sign : goal.invariant-term-loop-sign
+invariant-term-loop-sign l = Reading term factor (arithmetic_of l.scope.field) l.scope.left l.from.sheet.now l.from.place l.whole.end l.whole.value
 
-abbrev pub decreases-term-loop-scope : goal.decreases-term-loop-scope
-decreases-term-loop-scope l = length l.from.sheet.now - l.whole.end
+abbrev pub decreases-term-loop-sign : goal.decreases-term-loop-sign
+decreases-term-loop-sign l = length l.from.sheet.now - l.whole.end

@@ -7,7 +7,10 @@ use Rattle.sheet.proofs.words.one_of.Goals as goal
 pub returns-then-same-letters : goal.returns-then-same-letters
 returns-then-same-letters g c =
     written _ c.loop-letters-item.result _ _ _ _ c.loop-letters-test.true c.loop-letters-item.is
-    (matches c.args.from.within c.rest.ensures c.common-same.ensures) c.if-same-letters.true
+    (matches c.args.from.within c.rest.ensures c.common-same.ensures) c.if-same-letters.true c.part.ensures.place c.part.ensures.text c.part.ensures.ends
+
+pub part-requires-clause-within : goal.part-requires-clause-within
+part-requires-clause-within g c = (matches c.args.from.within c.rest.ensures c.common-same.ensures).within
 
 pub loop-letters-preserved : goal.loop-letters-preserved
 loop-letters-preserved g c = (
