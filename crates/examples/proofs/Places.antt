@@ -1,13 +1,14 @@
--- What the checker computes place by place: lists of codes, products of polynomials, and messages of two bits.
-use Rattle.std.proofs.Common.{◌≡◌, ℕ, zero, suc, ◌+◌, ◌<◌, ◌≤◌, true, eqb, ltb, List, [], ◌∷◌, length, sym, ◌∙◌, arith}
+-- What the checker computes place by place: lists of codes, and products of polynomials.
+use Rattle.std.proofs.Common.{◌≡◌, ℕ, suc, ◌+◌, ◌<◌, ◌≤◌, true, eqb, ltb, List, length, sym, ◌∙◌, arith}
 use mathlib.Core.Path.{fun_ext}
 use native.Mathlib.Decide.{dec_lt}
 use Rattle.std.proofs.lemmas.Bool.{ltb-true}
 use Rattle.algebra.specs.Field.{Arithmetic, FieldLaws}
 use Rattle.algebra.specs.Moduli.{Coprime, one}
-use Rattle.algebra.specs.Polynomial.{Below, IsPolynomial, add, coefficients, multiply}
+use Rattle.algebra.specs.Polynomial.{Below, IsPolynomial, ShareFactor, add, coefficients, multiply}
 use Rattle.algebra.proofs.Coefficients.{below_add, below_more, below_multiply, coefficients_below, list_polynomial, monomial_off}
 use Rattle.algebra.proofs.Computed.{agree_below, all_below, passes_below}
+use Rattle.algebra.proofs.Residues.{coprime_not_shared}
 use Rattle.plan.proofs.Numbers.{codes_throughout}
 
 -- Coefficient functions that are 0 from n on, and agree before, are equal.
@@ -46,7 +47,7 @@ module _ (f : Arithmetic) (L : FieldLaws f) where
       (below_more (length zs) (length xs + length ys) (coefficients zs) l (coefficients_below zs))
 
   -- Polynomials are coprime if a combination of them agrees with 1 at all the places that it has, n + 1 at most.
-  pub coprime_by_places : (ms ns left right : List ℕ) → AllCodes f ms → AllCodes f ns → AllCodes f left → AllCodes f right
+  coprime_by_places : (ms ns left right : List ℕ) → AllCodes f ms → AllCodes f ns → AllCodes f left → AllCodes f right
       → (n : ℕ) → length left + length ms ≤ suc n → length right + length ns ≤ suc n
       → all_below (λ i. eqb (add f (multiply f (coefficients left) (coefficients ms)) (multiply f (coefficients right) (coefficients ns)) i) (one i)) (suc n) ≡ true
       → Coprime f (coefficients ms) (coefficients ns)
@@ -64,16 +65,11 @@ module _ (f : Arithmetic) (L : FieldLaws f) where
             (λ i h. monomial_off 1 0 i (omega arith)) t;
       }
 
--- What holds of the four lists of two bits holds of every message of two bits.
-pub two_bits : (P : List ℕ → Type 0) → P (0 ∷ 0 ∷ []) → P (0 ∷ 1 ∷ []) → P (1 ∷ 0 ∷ []) → P (1 ∷ 1 ∷ [])
-    → (message : List ℕ) → length message ≡ 2 → ((i : ℕ) → coefficients message i < 2) → P message
-two_bits P p q r s (zero ∷ zero ∷ []) long codes = p
-two_bits P p q r s (zero ∷ suc zero ∷ []) long codes = q
-two_bits P p q r s (suc zero ∷ zero ∷ []) long codes = r
-two_bits P p q r s (suc zero ∷ suc zero ∷ []) long codes = s
-two_bits P p q r s [] long codes = absurd (omega arith)
-two_bits P p q r s (x ∷ []) long codes = absurd (omega arith)
-two_bits P p q r s (x ∷ y ∷ m ∷ ms) long codes = absurd (omega arith)
-two_bits P p q r s (suc (suc x) ∷ y ∷ []) long codes = absurd (omega (arith, codes 0))
-two_bits P p q r s (zero ∷ suc (suc y) ∷ []) long codes = absurd (omega (arith, codes 1))
-two_bits P p q r s (suc zero ∷ suc (suc y) ∷ []) long codes = absurd (omega (arith, codes 1))
+  -- Then they share no factor.
+  pub not_shared_by_places : (ms ns left right : List ℕ) → AllCodes f ms → AllCodes f ns → AllCodes f left → AllCodes f right
+      → (n : ℕ) → length left + length ms ≤ suc n → length right + length ns ≤ suc n
+      → all_below (λ i. eqb (add f (multiply f (coefficients left) (coefficients ms)) (multiply f (coefficients right) (coefficients ns)) i) (one i)) (suc n) ≡ true
+      → ¬ (ShareFactor f (coefficients ms) (coefficients ns))
+  not_shared_by_places ms ns left right hm hn hl hr n l g t =
+      coprime_not_shared f L (coefficients ms) (coefficients ns) (codes_polynomial ms hm) (codes_polynomial ns hn)
+      (coprime_by_places ms ns left right hm hn hl hr n l g t)

@@ -1,1 +1,9 @@
+pub mod Expressions
+pub mod Factors
+pub mod Fields
+pub mod Layer
+pub mod Ledger
+pub mod Plans
+pub mod Readings
+pub mod Words
 pub mod Worked

@@ -1,4 +1,4 @@
-// Tests of the fields at the edges of each operation. The program `vectors` compares many values.
+//! Tests of the fields at the edges of each operation. The program `vectors` compares many values.
 use field::{Bits, Bytes, Clock, Field};
 use std::process::Abort;
 

@@ -1,4 +1,4 @@
-// The worked examples, as one theorem about the definitions, and the tests of the layers below.
+//! The worked examples of all layers, as one theorem about the definitions, and tests of fields, plans, the reader and memories.
 #![tactic(auto)]
 
 ghost use Rattle.examples.specs.Worked.{WorkedExamples};

@@ -1,4 +1,4 @@
-// Tests of plans at the edges of what is accepted, and of encoding.
+//! Tests of plans at the edges of what is accepted, and of encoding.
 use fault::{Fault, Ground, Layer};
 use field::{Bits, Bytes, Clock, Field};
 use plan::{EncodeFault, MODULUS_CODES, MOST_POSITIONS, MOST_TOTAL, Plan, PlanFault};

@@ -1,4 +1,4 @@
-// Tests of the reader on the plans of the worked examples. The program `trials` draws many more.
+//! Tests of the reader on the plans of the worked examples. The program `trials` draws many more.
 use crate::moduli::FOUR_OVER_BITS;
 use fault::{Fault, Ground, Layer};
 use field::{Bits, Bytes, Field};

@@ -1,31 +1,9 @@
-use Rattle.std.proofs.Common.{[], ◌∷◌, refl, arith, lit≤}
+use Rattle.std.proofs.Common.{ℕ, ◌<◌, [], ◌∷◌, refl, arith, lit≤}
 use Rattle.algebra.specs.Polynomial.{multiply}
 use Rattle.expression.specs.Grammar.{Phrase, a_number, a_power, a_z, factor, in_brackets, one_factor, one_term, plus, sum, times}
-use Rattle.expression.specs.Values.{number, power, sum_of}
-use Rattle.lessons.specs.Lessons.{ExpressionExamples, LedgerExamples, square_text}
-use Rattle.lessons.proofs.lessons_hold.Goals as goal
-
-ledger : LedgerExamples
-ledger =
-    record {
-      gathered_first = refl;
-      gathered_second = refl;
-      gathered_none = refl;
-      first_reads = refl;
-      second_reads = refl;
-      intrusion = refl;
-      untouched = refl;
-      shut = refl;
-      ten = refl;
-      eleven = refl;
-      twelve = refl;
-      thirteen = refl;
-      fourteen = refl;
-      fifteen = refl;
-      sixteen = refl;
-      seventeen = refl;
-      any_buffer = refl;
-    }
+use Rattle.expression.specs.Values.{Expression, number, power, sum_of}
+use Rattle.sheet.specs.Refusals.{NoValue, OnLine, among_carrying, among_spare}
+use Rattle.examples.specs.Expressions.{ExpressionExamples, high_first, square_text}
 
 -- z+1, in brackets and out of them.
 z+1_phrase : Phrase sum 7 (122 ∷ 43 ∷ 49 ∷ []) (sum_of (power 1) (number 1))
@@ -36,7 +14,12 @@ z+1_phrase =
 bracketed : Phrase factor 8 (40 ∷ 122 ∷ 43 ∷ 49 ∷ 41 ∷ []) (sum_of (power 1) (number 1))
 bracketed = in_brackets {x = 122 ∷ 43 ∷ 49 ∷ []} z+1_phrase
 
-expressions : ExpressionExamples
+-- No modulus stands before line 3.
+none_before : (l : ℕ) (e : Expression) → l < 3 → OnLine high_first l e → ¬ (NoValue high_first e)
+none_before _ e early (among_carrying before after eq) none = absurd (omega arith)
+none_before _ e early (among_spare before after eq) none = absurd (omega arith)
+
+pub expressions : ExpressionExamples
 unfolding multiply
 expressions =
     record {
@@ -55,11 +38,8 @@ expressions =
             is = refl;
           };
       too_high = λ f. refl;
-      line_three = refl;
+      line_three = record { modulus = power 9; there = among_carrying [] [] refl; bad = refl; before = none_before };
       ground_three = refl;
       too_high_midway = refl;
       low_again = refl;
     }
-
-pub returns : goal.returns
-returns c = record { ledger = ledger; expressions = expressions }

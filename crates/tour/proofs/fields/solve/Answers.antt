@@ -1,6 +1,6 @@
 use Rattle.std.proofs.Common.{ap, ◌∙◌}
 use Rattle.algebra.proofs.Laws.{solves}
-use Rattle.tour.proofs.solve.Goals as goal
+use Rattle.tour.proofs.fields.solve.Goals as goal
 
 pub returns : goal.returns
 returns g c = λ h hg ho hl.
