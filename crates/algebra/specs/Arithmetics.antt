@@ -15,7 +15,7 @@ unfoldable pub such_that : (ℕ → Bool) → ℕ → ℕ
 such_that test zero = 0
 such_that test (suc n) = cond (test n) n (such_that test n)
 
--- The inverse of a: the code whose product with a is 1; 0 where there is none.
+-- The inverse of a: the code whose product with a is 1, of which a field has one at most; 0 where there is none.
 unfoldable pub reciprocal : ℕ → (ℕ → ℕ → ℕ) → ℕ → ℕ
 reciprocal q times a = such_that (λ b. nat_eq (times a b) 1) q
 

@@ -4,7 +4,7 @@ use Rattle.fault.specs.declared.Ground.{Ground}
 use Rattle.fault.specs.declared.Layer.{Layer}
 use Rattle.fault.specs.declared.Layer.TheVariants.{Sheet, Plan, Memory, Rack, Reader}
 
--- the letter of a layer, by its code: S, P, M, R and D
+-- The letter of a layer, by its code: S, P, M, R and D.
 abbrev pub letter_of : Layer → ℕ
 letter_of Sheet = 83
 letter_of Plan = 80
@@ -12,10 +12,10 @@ letter_of Memory = 77
 letter_of Rack = 82
 letter_of Reader = 68
 
--- a word, a blank, and what follows
+-- A word, a blank, and what follows.
 abbrev pub spaced : List ℕ → List ℕ → List ℕ
 spaced word rest = word ++ (codes " " ++ rest)
 
--- the line that is printed for a ground: the word no, the number, the letter and the two places, parted by one blank
+-- The line that is printed for a ground: the word no, the number, the letter and the two places, parted by one blank.
 abbrev pub line : Ground → List ℕ
 line g = spaced (codes "no") (spaced (decimal g.number) (spaced (encode_utf8 (letter_of g.layer)) (spaced (decimal g.first) (decimal g.second))))

@@ -1,4 +1,4 @@
-// The field of two elements: arithmetic modulo 2.
+//! The field of two elements: arithmetic modulo 2.
 ghost use Rattle.std.specs.Prelude.{refl};
 ghost use Rattle.algebra.specs.Arithmetics.{modulo};
 ghost use Rattle.algebra.proofs.Modular.{bit_laws};

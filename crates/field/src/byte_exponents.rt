@@ -1,4 +1,4 @@
-// The exponent of each byte as a power of the byte 2. 0 is no power: its place holds 0 and is never asked for.
+//! The exponent of each byte as a power of the byte 2. 0 is no power: its place holds 0 and is never asked for.
 
 pub const EXPONENTS: [u8; 256] = [
     0, 0, 1, 25, 2, 50, 26, 198, 3, 223, 51, 238, 27, 104, 199, 75, 4, 100, 224, 14, 52, 141, 239,

@@ -1,5 +1,5 @@
-// The field of 256 elements: bytes as polynomials of eight bits, multiplied modulo x^8 + x^4 + x^3 + x^2 + 1 (0x11D).
-// Every byte but 0 is a power of the byte 2, so a product is a sum of two exponents looked up in a table.
+//! The field of 256 elements: bytes as polynomials of eight bits, multiplied modulo x^8 + x^4 + x^3 + x^2 + 1 (0x11D).
+//! Every byte but 0 is a power of the byte 2, so a product is a sum of two exponents looked up in a table.
 ghost use Rattle.std.specs.Prelude.{◌≡◌, ◌+◌, ◌<◌, refl};
 ghost use Rattle.algebra.specs.Arithmetics.{byte_arithmetic};
 ghost use Rattle.algebra.specs.BitPolynomials.{power_of_two};

@@ -1,4 +1,4 @@
-// The powers of the byte 2, from exponent 0 on. Two exponents sum to 508 at most, so a product of bytes is one entry.
+//! The powers of the byte 2, from exponent 0 on. Two exponents sum to 508 at most, so a product of bytes is one entry.
 
 pub const POWERS: [u8; 510] = [
     1, 2, 4, 8, 16, 32, 64, 128, 29, 58, 116, 232, 205, 135, 19, 38, 76, 152, 45, 90, 180, 117,

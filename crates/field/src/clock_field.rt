@@ -1,4 +1,4 @@
-// The field of 257 elements: arithmetic modulo the prime 257.
+//! The field of 257 elements: arithmetic modulo the prime 257.
 ghost use Rattle.std.specs.Prelude.{refl};
 ghost use Rattle.algebra.specs.Arithmetics.{modulo};
 ghost use Rattle.algebra.proofs.Modular.{clock_laws};

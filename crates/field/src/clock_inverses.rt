@@ -1,4 +1,4 @@
-// The inverse of each number modulo 257, and 0 at 0.
+//! The inverse of each number modulo 257, and 0 at 0.
 
 pub const INVERSES: [u16; 257] = [
     0, 1, 129, 86, 193, 103, 43, 147, 225, 200, 180, 187, 150, 178, 202, 120, 241, 121, 100, 230,

@@ -1,5 +1,5 @@
-// Finite fields on codes: the interface that every field implements, and the three fields of the generator.
-// What a field means and the laws that it keeps are stated in the crate `algebra`.
+//! Finite fields on codes: the interface that every field implements, and the three fields of the generator.
+//! What a field means and the laws that it keeps are stated in the crate `algebra`.
 #![tactic(auto)]
 
 ghost use Rattle.std.specs.Prelude.{◌≡◌, ℕ, if◌then◌else◌, nat_lt};

@@ -1,4 +1,4 @@
-// The degree of a polynomial.
+//! The degree of a polynomial.
 ghost use Rattle.std.specs.Prelude.{◌≤◌, ◌<◌, MatchOption, length};
 ghost use Rattle.algebra.specs.Polynomial.{Below, DegreeIs, HasDegree, coefficients};
 ghost use Rattle.poly.specs.Slices.{Significant, longest};

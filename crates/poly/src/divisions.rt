@@ -1,4 +1,4 @@
-// Division with remainder over two buffers.
+//! Division with remainder over two buffers.
 ghost use Rattle.std.specs.Prelude.{◌-◌, ◌<◌, ◌≤◌, length};
 ghost use Rattle.algebra.specs.Polynomial.{Below, DegreeIs, IsDivision, coefficients};
 ghost use Rattle.poly.specs.Slices.{Codes, Divided, longest};

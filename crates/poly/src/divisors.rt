@@ -1,4 +1,4 @@
-// Euclid's algorithm: greatest common divisors, and whether two polynomials share a factor.
+//! Euclid's algorithm: greatest common divisors, and whether two polynomials share a factor.
 ghost use Rattle.std.specs.Prelude.{◌≡◌, ◌≤◌, length, MatchBool};
 ghost use Rattle.algebra.specs.Polynomial.{DegreeIs, ShareFactor, coefficients};
 ghost use Rattle.poly.specs.Slices.{Codes, IsGcd, capacity};

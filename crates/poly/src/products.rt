@@ -1,4 +1,4 @@
-// Products.
+//! Products.
 ghost use Rattle.std.specs.Prelude.{◌≡◌, ◌+◌, ◌<◌, ◌≤◌, length};
 ghost use Rattle.algebra.specs.Moduli.{monomial};
 ghost use Rattle.algebra.specs.Polynomial.{add, coefficients, multiply, subtract};

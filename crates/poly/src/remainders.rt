@@ -1,4 +1,4 @@
-// Remainders by a modulus whose leading code is 1: no inverse is needed, and no other buffer than the residue's own.
+//! Remainders by a modulus whose leading code is 1: no inverse is needed, and no other buffer than the residue's own.
 ghost use Rattle.std.specs.Prelude.{◌≡◌, ◌+◌, ◌<◌, ◌≤◌, ◌∷◌, length};
 ghost use Rattle.algebra.specs.Polynomial.{coefficients};
 ghost use Rattle.algebra.specs.Remainder.{IsRemainder, cleared, remainder};

@@ -1,4 +1,4 @@
-// Euclid's extended algorithm, step by step, on fixed buffers.
+//! Euclid's extended algorithm, step by step, on fixed buffers.
 ghost use Rattle.std.specs.Prelude.{◌≡◌, ℕ, ◌≤◌, length};
 ghost use Rattle.algebra.specs.Field.{Arithmetic, FieldLaws};
 ghost use Rattle.algebra.specs.Moduli.{nought, one};

@@ -28,7 +28,7 @@ abbrev pub Padded : Scheme → Result Reading ReaderFault → Type 0
 Padded s (Ok reading) = Below (message_length s) (coefficients reading.message)
 Padded s (Err fault) = Unit {0}
 
--- Number, layer and places of each fault; the caller adds a slot as the first place.
+-- Number, layer and places of each fault; a rack adds the slot as the first place.
 abbrev pub reader_ground : ReaderFault → Ground
 reader_ground (TooMuchMissing excess) = record { number = 18; layer = layer.Reader; first = 0; second = excess }
 reader_ground NoMessage = record { number = 19; layer = layer.Reader; first = 0; second = 0 }

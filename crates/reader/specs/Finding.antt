@@ -1,3 +1,4 @@
+-- Inner: no public contract cites this.
 -- The search for a message in what is joined: where Euclid's extended algorithm is stopped, r = t·a for every message a within
 -- reach, so that the quotient of r by t is the only candidate.
 use Rattle.std.specs.Prelude.{◌≡◌, ℕ, List, Some, None, Option}

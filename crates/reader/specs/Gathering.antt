@@ -1,3 +1,4 @@
+-- Inner: no public contract cites this.
 -- Which positions are gathered for the search, and what is joined of them.
 use Rattle.std.specs.Prelude.{◌≡◌, ℕ, ◌<◌, Bool, cond, ◌&&◌, List, length, is_some, Some, None, Option, ◌==◌, nat_lt}
 use Rattle.std.specs.List.{list_all}

@@ -1,3 +1,4 @@
+-- Inner: no public contract cites this.
 -- Residues joined one modulus at a time: M, the product of the moduli so far, and Y, the polynomial of lower degree that
 -- leaves their residues.
 use Rattle.std.specs.Prelude.{◌≡◌, ℕ, ◌+◌, List, length}

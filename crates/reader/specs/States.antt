@@ -1,3 +1,4 @@
+-- Inner: no public contract cites this.
 -- What a state of joining, and a modulus with its residue, keep.
 use Rattle.std.specs.Prelude.{◌≡◌, ℕ, ◌+◌, ◌<◌, ◌≤◌, List, length}
 use Rattle.algebra.specs.Field.{Arithmetic}

@@ -1,4 +1,4 @@
-// What a reader answers.
+//! What a reader answers.
 ghost use Rattle.std.specs.Prelude.{◌≡◌, take};
 ghost use Rattle.plan.specs.Held.{scheme};
 ghost use Rattle.plan.specs.Schemes.{message_length};

@@ -1,4 +1,4 @@
-// What has arrived of a word.
+//! What has arrived of a word.
 ghost use Rattle.std.specs.Prelude.{◌≡◌};
 ghost use Rattle.std.specs.Option.{option_copied};
 ghost use Rattle.plan.specs.Held.{scheme};

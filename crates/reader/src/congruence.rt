@@ -1,5 +1,5 @@
-// A modulus with the residue that is to be left by it, and arithmetic modulo it. What is computed comes in tables of CAPACITY codes, for
-// nothing is allocated.
+//! A modulus with the residue that is to be left by it, and arithmetic modulo it. What is computed comes in tables of CAPACITY codes, for
+//! nothing is allocated.
 ghost use Rattle.std.specs.Prelude.{◌≤◌, length};
 ghost use Rattle.algebra.specs.Moduli.{Congruent, Coprime, one};
 ghost use Rattle.algebra.specs.Polynomial.{Below, coefficients, multiply};

@@ -1,4 +1,4 @@
-// The candidate: the only polynomial below K that can be the message within the allowance of what is joined.
+//! The candidate: the only polynomial below K that can be the message within the allowance of what is joined.
 ghost use Rattle.std.specs.Prelude.{◌≤◌};
 ghost use Rattle.algebra.specs.Polynomial.{coefficients};
 ghost use Rattle.algebra.specs.Theorems.{Stopped};

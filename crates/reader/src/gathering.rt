@@ -1,4 +1,4 @@
-// Gathering what has arrived: the residues that can be used, joined into one polynomial.
+//! Gathering what has arrived: the residues that can be used, joined into one polynomial.
 ghost use Rattle.std.specs.Prelude.{◌≡◌, ◌<◌, Decides, Some, None, MatchOption};
 ghost use Rattle.std.specs.Option.{option_copied};
 ghost use Rattle.algebra.specs.Polynomial.{coefficients};
@@ -23,7 +23,7 @@ fn all_codes<F: Field>(numbers: &[u16]) -> bool
 }
 
 impl<'a, F: Field> Arrived<'a, F> {
-    // Whether a residue can be used at position i: it has as many codes as the position.
+    // Whether a residue can be used at position i: it has as many numbers as the position has codes, and all are codes.
     fn is_usable(&self, i: usize, residue: &[u16]) -> bool
         ensures { result ≡ is_usable (scheme self.now.plan.now) i residue.now }
     {

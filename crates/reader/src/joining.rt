@@ -1,4 +1,4 @@
-// Joining residues, one modulus at a time, by the Chinese remainder theorem.
+//! Joining residues, one modulus at a time, by the Chinese remainder theorem.
 ghost use Rattle.std.specs.Prelude.{◌≡◌, ◌+◌, ◌<◌, length};
 ghost use Rattle.algebra.specs.Moduli.{Congruent, Coprime, nought, one};
 ghost use Rattle.algebra.specs.Polynomial.{Below, add, coefficients, multiply};

@@ -1,4 +1,4 @@
-// The reader: the one message within the allowance of what has arrived, past wrong and missing positions.
+//! The reader: the one message within the allowance of what has arrived, past wrong and missing positions.
 #![tactic(auto)]
 
 mod answers;

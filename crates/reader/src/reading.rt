@@ -1,4 +1,4 @@
-// Reading: the one message within the allowance of what has arrived.
+//! Reading: the one message within the allowance of what has arrived.
 ghost use Rattle.plan.specs.Held.{scheme};
 ghost use Rattle.reader.specs.Answers.{Answered, Padded};
 ghost use Rattle.reader.specs.Arrivals.{account_of};

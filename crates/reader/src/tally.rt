@@ -1,5 +1,5 @@
-// What has arrived for and against a message: the degrees of the missing positions, the degrees of those that the message does
-// not explain, and the margin.
+//! What has arrived for and against a message: the degrees of the missing positions, the degrees of those that the message does
+//! not explain, and the margin.
 ghost use Rattle.std.specs.Prelude.{◌≡◌, ℕ, ◌+◌, ◌*◌, ◌≤◌, pos, ◌-ℤ◌};
 ghost use Rattle.plan.specs.Accounts.{charge, lost, margin, missing, same, wrong};
 ghost use Rattle.plan.specs.Held.{scheme};

@@ -7,27 +7,27 @@ use Rattle.fault.specs.declared.Ground.{Ground}
 use Rattle.fault.specs.declared.Layer.TheVariants.{Memory}
 use Rattle.memory.specs.Meaning.{Bounded, Gets, Sets}
 
--- the ground on which a depth is refused
+-- The ground on which a depth is refused.
 abbrev pub depth_ground : Ground
 depth_ground = record { number = 8; layer = Memory; first = 0; second = 0 }
 
--- whether a depth divides a number of cells
+-- Whether a depth divides a number of cells.
 abbrev pub divides : ℕ → ℕ → Bool
 divides depth len = nat_lt 0 depth && len % depth == 0
 
--- the cell below that is cell j of the layer. Of a depth that does not divide, which no layer has, it is said to be cell j itself.
+-- The cell below that is cell j of the layer. Of a depth that does not divide, which no layer has, it is said to be cell j itself.
 abbrev pub place : ℕ → ℕ → ℕ → ℕ
 place depth len j = cond (divides depth len) (j % depth * (len / depth) + j / depth) j
 
--- the same of any number: nothing where the layer has no cell j
+-- The same of any number: nothing where the layer has no cell j.
 abbrev pub placed : ℕ → ℕ → ℕ → Option ℕ
 placed depth len j = cond (nat_lt j len) (Some (place depth len j)) None
 
--- the layer's cells, from those below
+-- The layer's cells, from those below.
 unfoldable pub spread_row : ℕ → List ℕ → List ℕ
 spread_row depth below = map (λ j. slice_index below (place depth (length below) j)) (range_with_len 0 (length below))
 
--- at, below, is where cell j of the layer lies: what is got or set there is got or set as cell j here
+-- `at`, below, is where cell j of the layer lies: what is got or set there is got or set as cell j here.
 pub record Stands (depth : ℕ) (below : List ℕ) (j at : ℕ) : Type 0 where
   pub gets : (top : ℕ) (answer : Option ℕ) → Gets below top at answer → Gets (spread_row depth below) top j answer
   pub sets :
@@ -35,7 +35,7 @@ pub record Stands (depth : ℕ) (below : List ℕ) (j at : ℕ) : Type 0 where
       → Sets below top at v answer below' top'
       → Sets (spread_row depth below) top j v answer (spread_row depth below') top'
 
--- the layer has no cell j: nothing is got, and a set is refused and changes nothing
+-- The layer has no cell j: nothing is got, and a set is refused and changes nothing.
 pub record Missing (depth : ℕ) (below : List ℕ) (j : ℕ) : Type 0 where
   pub gets : (top : ℕ) → Gets (spread_row depth below) top j None
   pub sets : (top v : ℕ) → Sets (spread_row depth below) top j v false (spread_row depth below) top
@@ -46,7 +46,7 @@ pub record Permutes (n : ℕ) (p : ℕ → ℕ) : Type 0 where
   pub one_to_one : (j k : ℕ) → j < n → k < n → p j ≡ p k → j ≡ k
   pub onto : (k : ℕ) → k < n → (j : ℕ) × (j < n) × (p j ≡ k)
 
--- the layer has as many cells as the memory below, and so stays within a memory's limits
+-- The layer has as many cells as the memory below, and so stays within a memory's limits.
 pub spread_row_length : (depth : ℕ) (below : List ℕ) → length (spread_row depth below) ≡ length below
 unfolding spread_row
 spread_row_length depth below = length-map-range_with_len (λ j. slice_index below (place depth (length below) j)) 0 (length below)

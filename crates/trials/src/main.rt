@@ -1,6 +1,6 @@
-// Draws plans over the three fields, with moduli of mixed degree, reducible ones among them; encodes messages, strikes and
-// damages their words, and holds the reader against the margin of what was sent and against a search over all messages.
-// The draws are fixed, so the counts are too.
+//! Draws plans over the three fields, with moduli of mixed degree, reducible ones among them; encodes messages, strikes and
+//! damages their words, and holds the reader against the margin of what was sent and against a search over all messages.
+//! The draws are fixed, so the counts are too.
 #![tactic(auto)]
 
 ghost use Rattle.std.specs.Prelude.{◌<◌};

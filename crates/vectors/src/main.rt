@@ -1,5 +1,5 @@
-// Compares the library with values that an unrelated program made (tools/field_vectors.py), one to a line of standard
-// input: the field's name, the operation, its numbers, and the answer.
+//! Compares the library with values that an unrelated program made (tools/field_vectors.py), one to a line of standard
+//! input: the field's name, the operation, its numbers, and the answer.
 #![tactic(auto)]
 
 use anyhow::{Context, anyhow};
