@@ -1,119 +1,25 @@
 -- Bytes are a field. Every byte but 0 is a power of x, the byte 2, and a product by x^i is i doublings: all laws follow from that.
-use Rattle.std.proofs.Common.{◌≡◌, ℕ, zero, suc, ◌+◌, ◌-◌, ◌*◌, ◌/◌, ◌%◌, ◌^◌, ◌<◌, ◌≤◌, cond, eqb, ltb, ◌⊎◌, List, [], ◌∷◌, map, get_or, sym, refl, ap, ◌∙◌, subst, inl, inr, ⊎_elim, add-suc, mod-lt, add_comm, suc-add, one-mul, zero-add, zero-mul, mul_left_comm, add-one, arith, pow_mono}
-use native.Mathlib.Nat.{div-eq_of_lt, mul-div-mul_left, pow-succ'}
-use lib.Bits.{bit_xor, xor_lt, xor_mod, xor_shr, xor_self, xor_zero_r, xor_comm, xor_assoc, xor_block}
+use Rattle.std.proofs.Common.{◌≡◌, ℕ, zero, suc, ◌+◌, ◌-◌, ◌*◌, ◌/◌, ◌%◌, ◌<◌, ◌≤◌, cond, eqb, ltb, ◌⊎◌, List, [], ◌∷◌, map, get_or, sym, refl, ap, ◌∙◌, subst, inl, inr, ⊎_elim, add_comm, suc-add, one-mul, zero-add, zero-mul, add-one, arith}
+use lib.Bits.{bit_xor, xor_lt, xor_self, xor_zero_r, xor_comm, xor_assoc}
 use Rattle.std.specs.List.{range_with_len}
 use Rattle.std.proofs.lemmas.List.FromFn.{get_or-map-range_with_len}
 use Rattle.std.proofs.lemmas.Bool.{cases_lt, ltb-true}
 use Rattle.algebra.specs.Arithmetics.{byte_arithmetic, reciprocal}
 use Rattle.algebra.specs.BitPolynomials.{byte_modulus, byte_product, carry_less, power_of_two, reduce}
 use Rattle.algebra.specs.Field.{FieldLaws}
+use Rattle.algebra.specs.Theorems.{OneBitRemainder}
+use Rattle.algebra.proofs.BitReduction.{at_bits, bit_below, low_bit, one_remainder, product_bits, reduce_low, reduce_shifted, reduce_sum, shifted_up, twice_sum}
 use Rattle.algebra.proofs.Computed.{agree_below, passes_below}
 use Rattle.algebra.proofs.Guarded.{field_laws, on_codes_inside, on_codes_outside_left, on_codes_outside_right, reciprocal_passes}
 use Rattle.algebra.proofs.Laws.{inverse_unique}
 
--- Exclusive or as a sum of bit polynomials
-
-regroup : (a b c d : ℕ) → bit_xor (bit_xor a b) (bit_xor c d) ≡ bit_xor (bit_xor a c) (bit_xor b d)
-regroup a b c d =
-    xor_assoc a b (bit_xor c d)
-    ∙ ap (bit_xor a) (sym (xor_assoc b c d) ∙ ap (λ x. bit_xor x d) (xor_comm b c) ∙ xor_assoc c b d)
-    ∙ sym (xor_assoc a c (bit_xor b d))
-
-twice_sum : (a b : ℕ) → 2 * bit_xor a b ≡ bit_xor (2 * a) (2 * b)
-twice_sum a b =
-    let whole : 2 * bit_xor a b ≡ bit_xor a b * 2 + 0 = omega arith in
-    let left : a * 2 + 0 ≡ 2 * a = omega arith in
-    let right : b * 2 + 0 ≡ 2 * b = omega arith in
-    whole ∙ sym (xor_block 1 a b 0 0 (omega arith) (omega arith)) ∙ ap (λ x. bit_xor x (b * 2 + 0)) left ∙ ap (bit_xor (2 * a)) right
-
-at_bits : (P : ℕ → Type 0) → P 0 → P 1 → (bit : ℕ) → bit < 2 → P bit
-at_bits P p r zero h = p
-at_bits P p r (suc zero) h = r
-at_bits P p r (suc (suc bit)) h = absurd (omega arith)
-
-low_bit : (a : ℕ) → a % 2 < 2
-low_bit a = mod-lt a (omega arith)
-
--- The bit b times a, for a sum of two bits.
-bit_sum : (a b c : ℕ) → b < 2 → c < 2 → bit_xor b c * a ≡ bit_xor (b * a) (c * a)
-bit_sum a b c hb hc =
-    at_bits (λ b. bit_xor b c * a ≡ bit_xor (b * a) (c * a))
-    (sym (ap (λ x. bit_xor x (c * a)) (zero-mul a)))
-    (at_bits (λ c. bit_xor 1 c * a ≡ bit_xor (1 * a) (c * a))
-    (sym (ap (bit_xor (1 * a)) (zero-mul a) ∙ xor_zero_r (1 * a)))
-    (zero-mul a ∙ sym (xor_self (1 * a)))
-    c hc)
-    b hb
-
--- Reduction keeps sums, leaves bytes, and goes before or after a shift
-
-bit_at : ℕ → ℕ → ℕ
-bit_at n p = p / 2 ^ (8 + n) % 2
-
-bit_at_sum : (n p r : ℕ) → bit_at n (bit_xor p r) ≡ bit_xor (bit_at n p) (bit_at n r)
-unfolding bit_at
-bit_at_sum n p r = ap (λ x. x % 2) (xor_shr p r (8 + n)) ∙ xor_mod (p / 2 ^ (8 + n)) (r / 2 ^ (8 + n)) 1
-
-bit_at_below : (n p : ℕ) → bit_at n p < 2
-unfolding bit_at
-bit_at_below n p = low_bit (p / 2 ^ (8 + n))
-
-bit_at_byte : (n p : ℕ) → p < 256 → bit_at n p ≡ 0
-unfolding bit_at
-bit_at_byte n p h =
-    let high : 2 ^ 8 ≤ 2 ^ (8 + n) = pow_mono {i = 8} {j = 8 + n} (omega arith) in
-    ap (λ x. x % 2) (div-eq_of_lt {n = p} {m = 2 ^ (8 + n)} (omega arith))
-
-bit_at_shifted : (n p : ℕ) → bit_at (suc n) (2 * p) ≡ bit_at n p
-unfolding bit_at
-bit_at_shifted n p =
-    ap (λ x. 2 * p / x % 2) (ap (λ x. 2 ^ x) (add-suc 8 n) ∙ pow-succ' 2 (8 + n))
-    ∙ ap (λ x. x % 2) (mul-div-mul_left p (2 ^ (8 + n)) (omega arith))
-
-reduce_more : (n p : ℕ) → reduce (suc n) p ≡ reduce n (bit_xor p (bit_at n p * (byte_modulus * 2 ^ n)))
-unfolding reduce bit_at
-reduce_more n p = refl
-
-reduce_sum : (n p r : ℕ) → reduce n (bit_xor p r) ≡ bit_xor (reduce n p) (reduce n r)
-unfolding reduce bit_at
-reduce_sum zero p r = refl
-reduce_sum (suc n) p r =
-    let m = byte_modulus * 2 ^ n in
-    ap (λ x. reduce n (bit_xor (bit_xor p r) (x * m))) (bit_at_sum n p r)
-    ∙ ap (λ x. reduce n (bit_xor (bit_xor p r) x)) (bit_sum m (bit_at n p) (bit_at n r) (bit_at_below n p) (bit_at_below n r))
-    ∙ ap (reduce n) (regroup p r (bit_at n p * m) (bit_at n r * m))
-    ∙ reduce_sum n (bit_xor p (bit_at n p * m)) (bit_xor r (bit_at n r * m))
-
-reduce_byte : (n p : ℕ) → p < 256 → reduce n p ≡ p
-unfolding reduce bit_at
-reduce_byte zero p h = refl
-reduce_byte (suc n) p h =
-    ap (λ x. reduce n (bit_xor p (x * (byte_modulus * 2 ^ n)))) (bit_at_byte n p h)
-    ∙ ap (λ x. reduce n (bit_xor p x)) (zero-mul (byte_modulus * 2 ^ n))
-    ∙ ap (reduce n) (xor_zero_r p)
-    ∙ reduce_byte n p h
-
 -- x times a byte.
 unfoldable pub doubled : ℕ → ℕ
-doubled a = reduce 1 (2 * a)
-
-reduce_shifted : (n p : ℕ) → reduce (suc n) (2 * p) ≡ doubled (reduce n p)
-unfolding reduce doubled bit_at
-reduce_shifted zero p = refl
-reduce_shifted (suc n) p =
-    let b = bit_at n p in
-    let m = byte_modulus * 2 ^ n in
-    let up : byte_modulus * 2 ^ suc n ≡ 2 * m = ap (λ x. byte_modulus * x) (pow-succ' 2 n) ∙ mul_left_comm byte_modulus 2 (2 ^ n) in
-    ap (λ x. reduce (suc n) (bit_xor (2 * p) (x * (byte_modulus * 2 ^ suc n)))) (bit_at_shifted n p)
-    ∙ ap (λ x. reduce (suc n) (bit_xor (2 * p) (b * x))) up
-    ∙ ap (λ x. reduce (suc n) (bit_xor (2 * p) x)) (mul_left_comm b 2 m)
-    ∙ ap (reduce (suc n)) (sym (twice_sum p (b * m)))
-    ∙ reduce_shifted n (bit_xor p (b * m))
+doubled a = reduce 8 byte_modulus 1 (2 * a)
 
 doubled_sum : (a b : ℕ) → doubled (bit_xor a b) ≡ bit_xor (doubled a) (doubled b)
 unfolding doubled
-doubled_sum a b = ap (reduce 1) (twice_sum a b) ∙ reduce_sum 1 (2 * a) (2 * b)
+doubled_sum a b = ap (reduce 8 byte_modulus 1) (twice_sum a b) ∙ reduce_sum 8 byte_modulus 1 (2 * a) (2 * b)
 
 doubled_below : (a : ℕ) → a < 256 → doubled a < 256
 unfolding doubled reduce
@@ -125,20 +31,23 @@ horner : ℕ → ℕ → ℕ → ℕ
 horner zero a b = 0
 horner (suc n) a b = bit_xor (b % 2 * a) (doubled (horner n a (b / 2)))
 
-bit_below : (a b : ℕ) → a < 256 → b < 2 → b * a < 256
-bit_below a b ha hb = at_bits (λ b. b * a < 256) (rw zero-mul (omega arith)) (rw one-mul ha) b hb
-
-reduced_product : (n a b : ℕ) → a < 256 → reduce n (carry_less (suc n) a b) ≡ horner (suc n) a b
-unfolding horner doubled carry_less reduce
+reduced_product : (n a b : ℕ) → a < 256 → reduce 8 byte_modulus n (carry_less (suc n) a b) ≡ horner (suc n) a b
+unfolding horner doubled carry_less reduce shifted_up
 reduced_product zero a b h = refl
 reduced_product (suc n) a b h =
-    reduce_sum (suc n) (b % 2 * a) (2 * carry_less (suc n) a (b / 2))
-    ∙ ap (λ x. bit_xor x (reduce (suc n) (2 * carry_less (suc n) a (b / 2)))) (reduce_byte (suc n) (b % 2 * a) (bit_below a (b % 2) h (low_bit b)))
-    ∙ ap (bit_xor (b % 2 * a)) (reduce_shifted n (carry_less (suc n) a (b / 2)) ∙ ap doubled (reduced_product n a (b / 2) h))
+    let rest = 2 * carry_less (suc n) a (b / 2) in
+    reduce_sum 8 byte_modulus (suc n) (b % 2 * a) rest
+    ∙ ap (λ x. bit_xor x (reduce 8 byte_modulus (suc n) rest)) (reduce_low 8 byte_modulus (suc n) (b % 2 * a) (bit_below 8 a (b % 2) h (low_bit b)))
+    ∙ ap (bit_xor (b % 2 * a)) (reduce_shifted 8 byte_modulus n (carry_less (suc n) a (b / 2)) ∙ ap doubled (reduced_product n a (b / 2) h))
 
 product_by_horner : (a b : ℕ) → a < 256 → byte_product a b ≡ horner 8 a b
 unfolding byte_product
 product_by_horner a b h = reduced_product 7 a b h
+
+-- The product is the one remainder by the modulus.
+pub product_remainder : (a b : ℕ) → a < 256 → b < 256 → OneBitRemainder 8 byte_modulus (carry_less 8 a b) (byte_product a b)
+unfolding byte_product
+product_remainder a b ha hb = one_remainder 8 byte_modulus (omega arith) (omega arith) 7 (carry_less 8 a b) (product_bits 8 7 a b ha)
 
 bit_doubled : (a b : ℕ) → b < 2 → b * doubled a ≡ doubled (b * a)
 unfolding doubled reduce

@@ -1,3 +1,4 @@
+pub mod BitReduction
 pub mod Bytes
 pub mod Charges
 pub mod Codes

@@ -72,6 +72,19 @@ module _ {R : Type 0} (𝓡 : Ring R) where
       go : (x y : R) → a ≡ b ⊕ x · m → c ≡ d ⊕ y · m → a ⊕ c ≡ (b ⊕ d) ⊕ (x ⊕ y) · m
       go x y e f = rw (e, f) (simp ring)
 
+  pub congruent_difference : (m a b c d : R) → Congruent m a b → Congruent m c d → Congruent m (a ⊖ c) (b ⊖ d)
+  congruent_difference m a b c d h k =
+      congruent_by m (a ⊖ c) (b ⊖ d) (h.by ⊖ k.by) (go h.by k.by (congruent_is m a b h) (congruent_is m c d k))
+    where
+      regroup : (u v x y : R) → (u ⊕ v · m) ⊕ (x ⊕ y · m) ≡ (u ⊕ x) ⊕ (v ⊕ y) · m
+      regroup u v x y = simp ring
+
+      back : (x y : R) → a ≡ b ⊕ x · m → c ≡ d ⊕ y · m → ((b ⊖ d) ⊕ (x ⊖ y) · m) ⊕ c ≡ a
+      back x y e f = rw (f, e, regroup (b ⊖ d) (x ⊖ y) d y, difference_plus 𝓡 b d, difference_plus 𝓡 x y)
+
+      go : (x y : R) → a ≡ b ⊕ x · m → c ≡ d ⊕ y · m → a ⊖ c ≡ (b ⊖ d) ⊕ (x ⊖ y) · m
+      go x y e f = sym (difference_is 𝓡 a c ((b ⊖ d) ⊕ (x ⊖ y) · m) (back x y e f))
+
   pub congruent_product : (m a b c d : R) → Congruent m a b → Congruent m c d → Congruent m (a · c) (b · d)
   congruent_product m a b c d h k =
       congruent_by m (a · c) (b · d) (h.by · d ⊕ b · k.by ⊕ h.by · k.by · m)

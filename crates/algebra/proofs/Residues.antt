@@ -10,7 +10,7 @@ use Rattle.algebra.proofs.Division as theory_division
 use Rattle.algebra.proofs.Modulo as theory
 use Rattle.algebra.proofs.Euclid as theory_euclid
 use Rattle.algebra.proofs.Codes.{𝓒, lift, codes_of, codes_polynomial, same_codes, codes_one, codes_sum, codes_difference, codes_product, codes_combination, codes_product_of, under_from, below_from, degree_from, has_degree_from, divides_from, coded_divides_from, shared_from, share_factor_from, coprime_from, coded_coprime_from}
-use Rattle.algebra.proofs.Coefficients.{lift_add, lift_multiply, lift_one, add_polynomial, subtract_polynomial, multiply_polynomial, one_polynomial, nought_polynomial, add_nought, nought_add, nought_multiply, nought_below, subtract_is, subtract_nought, below_subtract, below_more, below_earlier, below_multiply, monomial_polynomial, monomial_from, monomial_off, subtract_add, add_comm, add_assoc, add_multiply, multiply_comm, multiply_one}
+use Rattle.algebra.proofs.Coefficients.{lift_add, lift_subtract, lift_multiply, lift_one, add_polynomial, subtract_polynomial, multiply_polynomial, one_polynomial, nought_polynomial, add_nought, nought_add, nought_multiply, nought_below, subtract_is, subtract_nought, below_subtract, below_more, below_earlier, below_multiply, monomial_polynomial, monomial_from, monomial_off, subtract_add, add_comm, add_assoc, add_multiply, multiply_comm, multiply_one}
 
 module _ (f : Arithmetic) (L : FieldLaws f) where
   abbrev 𝓠 : Ring (Poly (𝓒 f L))
@@ -219,6 +219,13 @@ module _ (f : Arithmetic) (L : FieldLaws f) where
       congruent_down m (add f a c) (add f b d) hm (add_polynomial f L a c ha hc) (add_polynomial f L b d hb hd)
       (rw (lift_add f L a c ha hc (add_polynomial f L a c ha hc), lift_add f L b d hb hd (add_polynomial f L b d hb hd))
       (theory.congruent_sum 𝓠 (up m hm) (up a ha) (up b hb) (up c hc) (up d hd) (congruent_up m a b hm ha hb h) (congruent_up m c d hm hc hd k)))
+
+  pub congruent_subtract : (m a b c d : ℕ → ℕ) → Is m → Is a → Is b → Is c → Is d → Congruent f m a b → Congruent f m c d
+      → Congruent f m (subtract f a c) (subtract f b d)
+  congruent_subtract m a b c d hm ha hb hc hd h k =
+      congruent_down m (subtract f a c) (subtract f b d) hm (subtract_polynomial f L a c ha hc) (subtract_polynomial f L b d hb hd)
+      (rw (lift_subtract f L a c ha hc (subtract_polynomial f L a c ha hc), lift_subtract f L b d hb hd (subtract_polynomial f L b d hb hd))
+      (theory.congruent_difference 𝓠 (up m hm) (up a ha) (up b hb) (up c hc) (up d hd) (congruent_up m a b hm ha hb h) (congruent_up m c d hm hc hd k)))
 
   pub congruent_multiply : (m a b c d : ℕ → ℕ) → Is m → Is a → Is b → Is c → Is d → Congruent f m a b → Congruent f m c d
       → Congruent f m (multiply f a c) (multiply f b d)

@@ -1,6 +1,7 @@
 -- The theorems of this crate, on coefficient functions. Each is the contract of a function in src/lib.rt.
-use Rattle.std.specs.Prelude.{◌≡◌, ℕ, ◌+◌, ◌*◌, ◌<◌, ◌≤◌, Bool, true, false, ◌⊎◌}
+use Rattle.std.specs.Prelude.{◌≡◌, ℕ, ◌+◌, ◌*◌, ◌^◌, ◌<◌, ◌≤◌, Bool, true, false, ◌⊎◌}
 use Rattle.algebra.specs.Abstract.{Field, Code}
+use Rattle.algebra.specs.BitPolynomials.{IsBitRemainder, byte_product, carry_less, reduce}
 use Rattle.algebra.specs.Field.{Arithmetic, FieldLaws}
 use Rattle.algebra.specs.Polynomial.{Below, HasDegree, add, subtract, multiply, IsPolynomial, Divides, ShareFactor, IsDivision}
 use Rattle.algebra.specs.Moduli.{Congruent, Coprime, total, chosen_degrees}
@@ -127,3 +128,17 @@ abbrev pub EveryMessageIsFound : Type 0
 EveryMessageIsFound =
     (f : Arithmetic) → FieldLaws f → (n K : ℕ) (m : ℕ → ℕ → ℕ) (d : ℕ → ℕ) (y : ℕ → ℕ → ℕ) (present : ℕ → Bool)
     → Moduli f n m d → ((i : ℕ) → IsPolynomial f (y i)) → K ≤ total (chosen_degrees present d) n → Found f n K m d y present
+
+-- r is the remainder of p by the bit polynomial m of degree d, and no other is.
+pub record OneBitRemainder (d m p r : ℕ) : Type 0 where
+  pub is : IsBitRemainder d m p r
+  pub only : (other : ℕ) → IsBitRemainder d m p other → other ≡ r
+
+-- Reduction answers the remainder by any modulus of degree d: one with bit d and none above it.
+abbrev pub ReductionIsRemainder : Type 0
+ReductionIsRemainder =
+    (d m n p : ℕ) → 2 ^ d ≤ m → m < 2 ^ (d + 1) → p < 2 ^ (d + n) → OneBitRemainder d m p (reduce d m n p)
+
+-- So a product of bytes is the remainder of the product of their polynomials: a · b = quotient · 0x11D + the answer, which is a byte.
+abbrev pub ByteProductIsRemainder : Type 0
+ByteProductIsRemainder = (a b : ℕ) → a < 256 → b < 256 → OneBitRemainder 8 0x11D (carry_less 8 a b) (byte_product a b)

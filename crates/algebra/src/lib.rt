@@ -4,6 +4,7 @@
 
 ghost use Rattle.algebra.specs.Theorems.{CodesFormAField, DivisionIsUnique, CoprimeOrShared, ResiduesJoin};
 ghost use Rattle.algebra.specs.Theorems.{EuclidStops, ReconstructionStands, EveryMessageIsFound, OneMessageAtMost};
+ghost use Rattle.algebra.specs.Theorems.{ReductionIsRemainder, ByteProductIsRemainder};
 
 /// The laws on codes make the codes below the order a field.
 pub fn codes_form_a_field()
@@ -43,4 +44,14 @@ pub fn every_message_is_found()
 /// No two messages explain the same residues within the redundancy.
 pub fn one_message_at_most()
     ensures { OneMessageAtMost }
+{}
+
+/// Reducing a bit polynomial answers its remainder, and there is only one.
+pub fn reduction_is_remainder()
+    ensures { ReductionIsRemainder }
+{}
+
+/// The product of two bytes is the remainder of their product as bit polynomials by 0x11D.
+pub fn byte_product_is_remainder()
+    ensures { ByteProductIsRemainder }
 {}

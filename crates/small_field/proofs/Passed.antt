@@ -8,7 +8,7 @@ use Rattle.algebra.proofs.Guarded.{field_laws}
 use Rattle.small_field.specs.Tested.{at_code, at_pair, at_triple, passes}
 
 module _ (q : ℕ) (plus : ℕ → ℕ → ℕ) (minus : ℕ → ℕ) (times : ℕ → ℕ → ℕ) where
-  code_laws : (a : ℕ) → at_code q plus minus times a ≡ true
+  pub code_laws : (a : ℕ) → at_code q plus minus times a ≡ true
       → (minus a < q)
       × (plus a 0 ≡ a)
       × (plus a (minus a) ≡ 0)
@@ -17,23 +17,23 @@ module _ (q : ℕ) (plus : ℕ → ℕ → ℕ) (minus : ℕ → ℕ) (times : �
       × (0 < a → times a (reciprocal q times a) ≡ 1)
   code_laws a h = grind (arith, nat_tests)
 
-  pair_laws : (a b : ℕ) → at_pair q plus minus times a b ≡ true → (plus a b < q) × (times a b < q) × (plus a b ≡ plus b a) × (times a b ≡ times b a)
+  pub pair_laws : (a b : ℕ) → at_pair q plus minus times a b ≡ true → (plus a b < q) × (times a b < q) × (plus a b ≡ plus b a) × (times a b ≡ times b a)
   pair_laws a b h = grind (arith, nat_tests)
 
-  triple_laws : (a b c : ℕ) → at_triple q plus minus times a b c ≡ true
+  pub triple_laws : (a b c : ℕ) → at_triple q plus minus times a b c ≡ true
       → (plus (plus a b) c ≡ plus a (plus b c))
       × (times (times a b) c ≡ times a (times b c))
       × (times a (plus b c) ≡ plus (times a b) (times a c))
   triple_laws a b c h = grind (arith, nat_tests)
 
   module _ (test : passes q plus minus times ≡ true) where
-    codes : (a : ℕ) → a < q → at_code q plus minus times a ≡ true
+    pub codes : (a : ℕ) → a < q → at_code q plus minus times a ≡ true
     codes = passes_below (at_code q plus minus times) q (grind (arith, nat_tests))
 
-    pairs : (a b : ℕ) → a < q → b < q → at_pair q plus minus times a b ≡ true
+    pub pairs : (a b : ℕ) → a < q → b < q → at_pair q plus minus times a b ≡ true
     pairs a b ha hb = passes_below (at_pair q plus minus times a) q (passes_below (λ a. all_below (at_pair q plus minus times a) q) q (grind (arith, nat_tests)) a ha) b hb
 
-    triples : (a b c : ℕ) → a < q → b < q → c < q → at_triple q plus minus times a b c ≡ true
+    pub triples : (a b c : ℕ) → a < q → b < q → c < q → at_triple q plus minus times a b c ≡ true
     triples a b c ha hb hc =
         passes_below (at_triple q plus minus times a b) q
         (passes_below (λ b. all_below (at_triple q plus minus times a b) q) q
