@@ -19,3 +19,7 @@ spaced word rest = word ++ (codes " " ++ rest)
 -- The line that is printed for a ground: the word no, the number, the letter and the two places, parted by one blank.
 abbrev pub line : Ground → List ℕ
 line g = spaced (codes "no") (spaced (decimal g.number) (spaced (encode_utf8 (letter_of g.layer)) (spaced (decimal g.first) (decimal g.second))))
+
+-- No line is longer: a number of one byte, and two places of eight.
+abbrev pub longest_line : ℕ
+longest_line = 50

@@ -4,3 +4,7 @@ use Rattle.std.specs.List.{flat_map}
 
 abbrev pub row_text : List ℕ → List ℕ
 row_text = flat_map (λ n. codes " " ++ decimal n)
+
+-- A number of sixteen bits takes at most this many bytes: its blank, and five digits.
+abbrev pub longest_number : ℕ
+longest_number = 6
