@@ -1,9 +1,11 @@
 -- The moduli in a list of codes, as definitions cut them out and as the library does.
-use Rattle.std.proofs.Common.{◌≡◌, ℕ, zero, suc, ◌+◌, ◌*◌, ◌<◌, ◌≤◌, List, [], length, get_or, take, drop, set, sym, refl, ap, ◌∙◌, arith, get_or-set_other, get_or-set_same}
+use Rattle.std.proofs.Common.{◌≡◌, ℕ, zero, suc, ◌+◌, ◌*◌, ◌<◌, ◌≤◌, List, [], length, get_or, take, drop, set, replicate, sym, refl, ap, ◌∙◌, arith, get_or-set_other, get_or-set_same}
 use native.Mathlib.Decide.{ℕ_discrete}
 use Rattle.std.specs.Simd.{first_chunks}
 use Rattle.std.proofs.lemmas.List.FromFn.{length-map-range_with_len, fill_by_all}
 use Rattle.std.proofs.lemmas.List.{drop-drop}
+use Rattle.algebra.specs.Polynomial.{Below, coefficients}
+use Rattle.algebra.proofs.Remainders.{zeros_nought}
 use Rattle.plan.specs.Limits.{modulus_codes}
 use Rattle.plan.specs.Schemes.{held_moduli}
 
@@ -39,3 +41,10 @@ starts_more value xs i v room before here j h =
 pub only_zero : (P : ℕ → Type 0) → P 0 → (j : ℕ) → j ≤ 0 → P j
 only_zero P p zero h = p
 only_zero P p (suc j) h = absurd (omega arith)
+
+-- Past the place where one more start is written nothing changes, and a table of zeros holds none.
+pub zeros_after : (xs : List ℕ) (i v : ℕ) → Below (i + 1) (coefficients xs) → Below (i + 1 + 1) (coefficients (set xs (i + 1) v))
+zeros_after xs i v before j h = get_or-set_other xs (i + 1) j v 0 (omega arith) ∙ before j (omega arith)
+
+pub zeros_from : (n : ℕ) → Below 1 (coefficients (replicate n 0))
+zeros_from n i h = ap (λ (p : ℕ → ℕ). p i) (zeros_nought n)

@@ -1,3 +1,4 @@
+pub mod Divisors
 pub mod Held
 pub mod Made
 pub mod Misfits
@@ -7,6 +8,7 @@ pub mod OwnWord
 pub mod Records
 pub mod Signs
 pub mod Sizes
+pub mod Tables
 pub mod Tallies
 pub mod Trimmed
 pub mod Uniqueness

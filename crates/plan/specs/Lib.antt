@@ -5,3 +5,6 @@ pub mod Held
 pub mod Limits
 pub mod Refusals
 pub mod Schemes
+pub mod Sentences
+pub mod Tables
+pub mod Words

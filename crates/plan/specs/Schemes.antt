@@ -42,6 +42,10 @@ module _ (s : Scheme) where
   abbrev pub degree : ℕ → ℕ
   degree i = degree_of (modulus i)
 
+  -- Modulus i without the zeros after its leading code.
+  abbrev pub divisor : ℕ → List ℕ
+  divisor i = take (extent (modulus i)) (modulus i)
+
   -- Position i begins where the degrees before it end.
   abbrev pub start : ℕ → ℕ
   start i = total_degree (take i s.moduli)

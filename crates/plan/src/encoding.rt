@@ -1,8 +1,10 @@
 //! Encoding a message as its remainder word.
-ghost use Rattle.std.specs.Prelude.{◌≡◌, ◌<◌, true, length, take, is_ok};
+ghost use Rattle.std.specs.Prelude.{◌≡◌, true, length, is_ok};
 ghost use Rattle.plan.specs.Held.{scheme};
+ghost use Rattle.plan.specs.Limits.{modulus_codes};
 ghost use Rattle.plan.specs.Refusals.{Encoded, HoldsRemainders};
-ghost use Rattle.plan.specs.Schemes.{degree, positions, residue, word, word_length};
+ghost use Rattle.plan.specs.Schemes.{residue, word, word_length};
+ghost use Rattle.plan.specs.Tables.{table_of};
 
 use crate::codes::first_no_code;
 use crate::faults::EncodeFault;
@@ -34,28 +36,26 @@ impl<F: Field> Plan<F> {
     /// What position i holds in the word of the message, the remainder by its modulus, in a table that has zeros after it; all zeros
     /// past the positions. A table, for nothing is allocated.
     pub fn residue(&self, i: usize, message: &[u16]) -> [u16; MODULUS_CODES]
-        ensures { take (degree (scheme self.now) i) result ≡ residue (scheme self.now) message.now i }
+        ensures { result ≡ table_of modulus_codes 0 (residue (scheme self.now) message.now i) }
     {
         let mut table = [0; MODULUS_CODES];
-        let modulus = self.modulus(i);
         let degree = self.degree(i);
         if degree > 0 {
-            reduce::<F>(message, &modulus[0..degree + 1], &mut table[0..degree]);
+            reduce::<F>(message, self.divisor(i), &mut table[0..degree]);
         }
         table
     }
 
-    // The word, whatever the message: each residue goes into its part of the buffer.
+    // The word, whatever the message: each residue is computed in its own part of the buffer.
     fn fill(&self, message: &[u16], buffer: &mut [u16])
         requires { length buffer.old ≡ word_length (scheme self.now) }
         ensures { buffer.new ≡ word (scheme self.now) message.now }
     {
-        // By position: its residue, its start and its end go by its number.
+        // By position: its modulus, its start and its end go by its number.
         for i in 0..self.positions() {
-            let residue = self.residue(i, message);
             let from = self.start(i);
             let end = self.start(i + 1);
-            buffer[from..end].copy_from_slice(&residue[0..end - from]);
+            reduce::<F>(message, self.divisor(i), &mut buffer[from..end]);
         }
     }
 }

@@ -2,7 +2,7 @@
 ghost use Rattle.std.specs.Prelude.{◌≡◌, ℕ, ◌+◌, ◌<◌, ◌≤◌, length};
 ghost use Rattle.plan.specs.Held.{scheme};
 ghost use Rattle.plan.specs.Limits.{modulus_codes};
-ghost use Rattle.plan.specs.Schemes.{positions, modulus, degree, start, message_length, word_length};
+ghost use Rattle.plan.specs.Schemes.{positions, modulus, degree, divisor, start, message_length, word_length};
 
 use crate::plans::Plan;
 use field::Field;
@@ -61,6 +61,18 @@ impl<F: Field> Plan<F> {
     {
         if i < self.positions {
             &self.moduli[i]
+        } else {
+            &[]
+        }
+    }
+
+    /// The codes of modulus i up to its leading one, by which a message is divided; none past the positions.
+    pub fn divisor(&self, i: usize) -> &[u16]
+        ensures value { result.now ≡ divisor (scheme self.now) i }
+        ensures short { length result.now ≤ modulus_codes }
+    {
+        if i < self.positions {
+            &self.modulus(i)[0..self.degree(i) + 1]
         } else {
             &[]
         }

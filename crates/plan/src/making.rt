@@ -1,12 +1,14 @@
 //! Making a plan: the checks in their order, each by its own function.
-ghost use Rattle.std.specs.Prelude.{◌≡◌, ℕ, ◌+◌, ◌<◌, ◌≤◌, List, length, take, Decides, MatchOption, MatchResult};
+ghost use Rattle.std.specs.Prelude.{◌≡◌, ℕ, ◌+◌, ◌<◌, ◌≤◌, List, length, replicate, Decides, MatchOption, MatchResult};
 ghost use Rattle.algebra.specs.Field.{Arithmetic};
+ghost use Rattle.algebra.specs.Polynomial.{Below, coefficients};
 ghost use Rattle.plan.specs.Agreement.{StartsAgree};
 ghost use Rattle.plan.specs.Drafts.{drafted};
 ghost use Rattle.plan.specs.Held.{scheme};
 ghost use Rattle.plan.specs.Limits.{modulus_codes, most_positions};
 ghost use Rattle.plan.specs.Refusals.{Accepted, FirstBadModulus, FirstClash, Refused};
 ghost use Rattle.plan.specs.Schemes.{AreModuli, Clash, degree_of, handed_in, IsModulus, IsShaped};
+ghost use Rattle.plan.specs.Tables.{table_of};
 ghost use Rattle.plan.specs.declared.faults.PlanFault.TheVariants.{Shape};
 
 use crate::codes::first_no_code;
@@ -67,9 +69,10 @@ impl<'a> Draft<'a> {
             .position(|modulus| !is_modulus::<F>(modulus))
     }
 
-    /// Where each position of a word starts, and where the last ends.
+    /// Where each position of a word starts, and where the last ends, in a table with zeros after them.
     fn starts(&self) -> [usize; STARTS_TABLE]
-        ensures { (f : Arithmetic) → StartsAgree (drafted f self.now) result }
+        ensures agree { (f : Arithmetic) → StartsAgree (drafted f self.now) result }
+        ensures zeros { Below (length self.now.moduli.now + 1) (coefficients result) }
     {
         let mut starts = [0; STARTS_TABLE];
         let mut end = 0usize;
@@ -102,8 +105,7 @@ impl<'a> Draft<'a> {
 
     /// The moduli in a table of fixed size, zeros after them.
     fn table(&self) -> [[u16; MODULUS_CODES]; MOST_POSITIONS]
-        ensures long { length result ≡ most_positions }
-        ensures value { take (length self.now.moduli.now) result ≡ self.now.moduli.now }
+        ensures { result ≡ table_of most_positions (replicate modulus_codes 0) self.now.moduli.now }
     {
         let mut table = [[0; MODULUS_CODES]; MOST_POSITIONS];
         table[0..self.moduli.len()].copy_from_slice(self.moduli);

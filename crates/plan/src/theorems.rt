@@ -1,5 +1,11 @@
 //! What holds of every account under every lawful scheme. The functions do nothing: each asks for a theorem.
 ghost use Rattle.plan.specs.Accounts.{MarginsApart, MisfitIsWrong, OneWithin, OwnWordWithin};
+ghost use Rattle.plan.specs.Words.{WordHoldsRemainders};
+
+/// Position by position, a word holds the one remainder of its message by the modulus: message = quotient · modulus + remainder.
+pub fn word_holds_remainders()
+    ensures { WordHoldsRemainders }
+{}
 
 /// Every message lies within the allowance of its own word.
 pub fn own_word_within()

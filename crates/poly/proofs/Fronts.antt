@@ -1,17 +1,34 @@
 -- The significant codes of a slice, division by them alone, and what a division leaves.
-use Rattle.std.proofs.Common.{◌≡◌, ℕ, zero, suc, ◌+◌, ◌-◌, ◌<◌, ◌≤◌, max, min, List, [], ◌∷◌, length, get_or, take, replicate, sym, refl, ap, ◌∙◌, arith}
+use Rattle.std.proofs.Common.{◌≡◌, ℕ, zero, suc, ◌+◌, ◌-◌, ◌<◌, ◌≤◌, max, min, List, [], ◌∷◌, length, get_or, take, replicate, ℤ, pos, negsuc, sym, refl, ap, ◌∙◌, arith, w32, SFits, to_z, of_z, to_z-of_z}
 use mathlib.Core.Path.{fun_ext}
 use native.Mathlib.Decide.{dec_lt}
 use Rattle.std.proofs.lemmas.List.{get_or-take, length-take-le}
 use Rattle.algebra.specs.Field.{Arithmetic}
-use Rattle.algebra.specs.Polynomial.{coefficients, Below, HasDegree, IsDivision}
+use Rattle.algebra.specs.Polynomial.{coefficients, Below, DegreeIs, HasDegree, IsDivision}
 use Rattle.algebra.proofs.Coefficients.{coefficients_below, degree_less, degree_one_only, below_more}
 use Rattle.algebra.proofs.Remainders.{zeros_nought}
-use Rattle.poly.specs.Slices.{Significant, Divided, Codes}
+use Rattle.poly.specs.Slices.{Significant, Divided, Codes, count_of}
 
 pub significant_degree : (p : ℕ → ℕ) (n : ℕ) → Significant p n → 0 < n → HasDegree (n - 1) p
 significant_degree p n s l =
     record { leading = s.leading l; above = below_more n (suc (n - 1)) p (omega arith) s.above }
+
+-- What a signed degree says.
+degree_significant : (p : ℕ → ℕ) (z : ℤ) → DegreeIs p z → Significant p (count_of z)
+degree_significant p (pos d) h = let last : suc d - 1 ≡ d = omega arith in record { leading = λ _. rw last h.leading; above = h.above }
+degree_significant p (negsuc zero) h = record { leading = λ l. absurd (omega (arith, l)); above = h }
+degree_significant p (negsuc (suc k)) h = absurd h
+
+-- As many codes of a list, counted by its degree.
+pub counted : (xs : List ℕ) (z : ℤ) (n : ℕ) → SFits w32 z → DegreeIs (coefficients xs) z → n ≡ count_of (to_z w32 (of_z w32 z)) → Significant (coefficients xs) n
+counted xs z n fits h e = let same : n ≡ count_of z = e ∙ ap count_of (to_z-of_z fits) in rw same (degree_significant (coefficients xs) z h)
+
+pub significant_within : (xs : List ℕ) (n : ℕ) → Significant (coefficients xs) n → n ≤ length xs
+significant_within xs n s =
+    elim (dec_lt (length xs) n) [
+      | yes l ↦ absurd (omega (arith, s.leading (omega arith), coefficients_below xs (n - 1) (omega arith)))
+      | no l ↦ omega arith
+    ]
 
 -- How many codes are significant, as a function of the list: it falls with each division.
 abbrev pub used : List ℕ → ℕ

@@ -1,5 +1,5 @@
 -- Polynomials held in slices of codes, lowest power first: what the functions of this crate ask and promise.
-use Rattle.std.specs.Prelude.{◌≡◌, ℕ, ◌-◌, ◌^◌, ◌<◌, List}
+use Rattle.std.specs.Prelude.{◌≡◌, ℕ, suc, ◌-◌, ◌^◌, ◌<◌, List, ℤ, pos, negsuc}
 use Rattle.algebra.specs.Field.{Arithmetic}
 use Rattle.algebra.specs.Polynomial.{Below, HasDegree, IsDivision, IsPolynomial, Divides, coefficients}
 
@@ -19,6 +19,11 @@ capacity = 65
 pub record Significant (p : ℕ → ℕ) (n : ℕ) : Type 0 where
   pub leading : 0 < n → 0 < p (n - 1)
   pub above : Below n p
+
+-- How many codes are significant of a polynomial of this degree.
+abbrev pub count_of : ℤ → ℕ
+count_of (pos d) = suc d
+count_of (negsuc _) = 0
 
 -- Quotient and remainder of a division; dividing by zero gives quotient zero and the dividend as remainder.
 pub record Divided (f : Arithmetic) (dividend divisor quotient remainder : ℕ → ℕ) : Type 0 where

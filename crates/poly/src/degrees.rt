@@ -1,7 +1,7 @@
 //! The degree of a polynomial.
-ghost use Rattle.std.specs.Prelude.{◌≤◌, ◌<◌, MatchOption, length};
+ghost use Rattle.std.specs.Prelude.{◌≡◌, ◌≤◌, ◌<◌, MatchOption, length};
 ghost use Rattle.algebra.specs.Polynomial.{Below, DegreeIs, HasDegree, coefficients};
-ghost use Rattle.poly.specs.Slices.{Significant, longest};
+ghost use Rattle.poly.specs.Slices.{Significant, count_of, longest};
 
 /// The place of the last code other than 0.
 fn leading(p: &[u16]) -> Option<usize>
@@ -11,7 +11,7 @@ fn leading(p: &[u16]) -> Option<usize>
 }
 
 /// How many codes there are up to the last one other than 0: one more than the degree, and 0 for zero.
-pub fn significant(p: &[u16]) -> usize
+pub(crate) fn significant(p: &[u16]) -> usize
     ensures within { result ≤ length p.now }
     ensures is { Significant (coefficients p.now) result }
 {
@@ -31,4 +31,11 @@ pub fn degree(p: &[u16]) -> i32
         Some(place) => place as i32,
         None => -1,
     }
+}
+
+/// How many codes are significant of a polynomial of this degree.
+pub(crate) fn count_of(degree: i32) -> usize
+    ensures { result ≡ count_of degree }
+{
+    if degree < 0 { 0 } else { degree as usize + 1 }
 }

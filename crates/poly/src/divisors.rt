@@ -3,7 +3,7 @@ ghost use Rattle.std.specs.Prelude.{◌≡◌, ◌≤◌, length, MatchBool};
 ghost use Rattle.algebra.specs.Polynomial.{DegreeIs, ShareFactor, coefficients};
 ghost use Rattle.poly.specs.Slices.{Codes, IsGcd, capacity};
 
-use crate::degrees::{degree, significant};
+use crate::degrees::{count_of, degree, significant};
 use crate::divisions::divide;
 use field::Field;
 
@@ -36,9 +36,11 @@ pub fn gcd<F: Field>(m: &[u16], n: &[u16], divisor: &mut [u16]) -> i32
     let mut current = loaded(n);
     let mut quotient = [0; CAPACITY];
     // Not by `Euclid`: its factors would cost a product each turn, and it asks that `n` be of lower degree than `m`.
-    while significant(&current) > 0 {
-        divide::<F>(&mut previous, &current, &mut quotient);
+    let mut count = significant(&current);
+    while count > 0 {
+        let (_, rest) = divide::<F>(&mut previous, &current, &mut quotient);
         (previous, current) = (current, previous);
+        count = count_of(rest);
     }
     divisor.copy_from_slice(&previous);
     degree(divisor)

@@ -4,9 +4,9 @@ ghost use Rattle.algebra.specs.Field.{Arithmetic, FieldLaws};
 ghost use Rattle.algebra.specs.Moduli.{nought, one};
 ghost use Rattle.algebra.specs.Polynomial.{Below, HasDegree, coefficients};
 ghost use Rattle.poly.specs.Extended.{Holds, Running, Stepped, Steps};
-ghost use Rattle.poly.specs.Slices.{Codes, capacity};
+ghost use Rattle.poly.specs.Slices.{Codes, Significant, capacity};
 
-use crate::degrees::significant;
+use crate::degrees::{count_of, significant};
 use crate::divisions::divide;
 use crate::divisors::{CAPACITY, loaded};
 use crate::products::subtract_product;
@@ -42,15 +42,17 @@ impl Euclid {
         }
     }
 
-    /// One division: the remainder becomes the current one, and its factor `t_previous - quotient·t_current`.
-    pub fn step<F: Field>(&mut self)
+    /// One division: the remainder becomes the current one, and its factor `t_previous - quotient·t_current`. Answers how many codes
+    /// of that remainder are significant.
+    pub fn step<F: Field>(&mut self) -> usize
         requires { Running F.Field.arithmetic self.old }
         ensures stepped { Stepped F.Field.arithmetic self.old self.new }
         ensures extended { (e D : ℕ) (M Y : ℕ → ℕ) → HasDegree e (coefficients self.old.current) → Holds F.Field.arithmetic D M Y self.old → Holds F.Field.arithmetic D M Y self.new }
+        ensures count { Significant (coefficients self.new.current) result }
     {
         let mut quotient = [0; CAPACITY];
-        divide::<F>(&mut self.previous, &self.current, &mut quotient);
-        let quotient_count = significant(&quotient);
+        let (quotient_degree, rest) = divide::<F>(&mut self.previous, &self.current, &mut quotient);
+        let quotient_count = count_of(quotient_degree);
         let factor_count = significant(&self.t_current);
         subtract_product::<F>(
             &mut self.t_previous,
@@ -59,6 +61,7 @@ impl Euclid {
         );
         (self.previous, self.current) = (self.current, self.previous);
         (self.t_previous, self.t_current) = (self.t_current, self.t_previous);
+        count_of(rest)
     }
 
     /// Steps until at most `most` codes of the current remainder are significant.
@@ -68,8 +71,9 @@ impl Euclid {
         ensures few { Below most (coefficients self.new.current) }
         ensures extended { (D : ℕ) (M Y : ℕ → ℕ) → Holds F.Field.arithmetic D M Y self.old → Holds F.Field.arithmetic D M Y self.new }
     {
-        while significant(&self.current) > most {
-            self.step::<F>();
+        let mut count = significant(&self.current);
+        while count > most {
+            count = self.step::<F>();
         }
     }
 }

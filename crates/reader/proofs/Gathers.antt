@@ -1,5 +1,5 @@
 -- One more position gathered, kept or not.
-use Rattle.std.proofs.Common.{◌≡◌, ℕ, zero, suc, ◌+◌, ◌-◌, ◌<◌, ◌≤◌, Bool, true, false, cond, eqb, ltb, List, [], ◌∷◌, length, take, is_some, Some, None, Option, Decides, sym, refl, ap, ◌∙◌, subst, add-one, arith}
+use Rattle.std.proofs.Common.{◌≡◌, ℕ, zero, suc, ◌+◌, ◌<◌, ◌≤◌, Bool, true, false, cond, eqb, ltb, List, [], ◌∷◌, length, take, is_some, Some, None, Option, Decides, sym, refl, ap, ◌∙◌, subst, add-one, arith}
 use native.Mathlib.Decide.{dec_lt}
 use Rattle.std.proofs.lemmas.List.{length-take-le}
 use Rattle.std.proofs.lemmas.Bool.{and_from, and_parts, cond-false, cond-true, eqb-true, lt-ltb, ltb-true}
@@ -15,7 +15,7 @@ use Rattle.field.specs.declared.Field as field
 use Rattle.plan.specs.Accounts.{Account}
 use Rattle.plan.specs.Held.{scheme}
 use Rattle.plan.specs.Limits.{modulus_codes}
-use Rattle.plan.specs.Schemes.{IsModulus, Scheme, degree, degree_of, modulus, positions, start}
+use Rattle.plan.specs.Schemes.{IsModulus, Scheme, degree, degree_of, extent, modulus, positions, start}
 use Rattle.plan.specs.declared.plans.Plan.{Plan}
 use Rattle.plan.proofs.Sizes.{extent_length, start_sum}
 use Rattle.plan.proofs.Tallies.{over_total}
@@ -40,19 +40,19 @@ decides_codes f L xs = (codes xs, below xs)
     below [] h = refl
     below (x ∷ xs) h = and_from (ltb x f.order) (all_below f.order xs) (lt-ltb x f.order (h 0)) (below xs (λ i. h (suc i)))
 
--- The front of a position's modulus and its residue are a pair to join.
-pub pair_here : (f : Arithmetic) (modulus ms ys : List ℕ) → IsModulus f modulus → length modulus ≡ modulus_codes → length ys ≡ degree_of modulus
-    → ms ≡ take (length ys + 1 - 0) modulus → Codes f ys → (coefficients ms ≡ coefficients modulus) × IsPair f ms ys
-pair_here f modulus ms ys lawful long d is residue_codes =
-    let front : coefficients ms ≡ coefficients modulus = ap coefficients is ∙ trimmed modulus (length ys + 1 - 0) (omega arith) in
+-- A position's modulus without the zeros after its leading code, and its residue, are a pair to join.
+pub pair_here : (f : Arithmetic) (modulus ms ys : List ℕ) → IsModulus f modulus → ms ≡ take (extent modulus) modulus → length ms ≤ modulus_codes
+    → length ys ≡ degree_of modulus → Codes f ys → (coefficients ms ≡ coefficients modulus) × IsPair f ms ys
+pair_here f modulus ms ys lawful is short d residue_codes =
+    let front : coefficients ms ≡ coefficients modulus = ap coefficients is ∙ trimmed modulus (extent modulus) (omega arith) in
     let proper = lawful.proper in
     let count : length ms ≡ length ys + 1 =
-    ap length is ∙ length-take-le (length ys + 1 - 0) modulus (omega (arith, extent_length modulus)) ∙ omega arith in (
+    ap length is ∙ length-take-le (extent modulus) modulus (extent_length modulus) ∙ omega arith in (
       front,
       record {
         least = omega arith;
         long = count;
-        short = omega (arith, extent_length modulus);
+        short = short;
         monic = ap (λ (p : ℕ → ℕ). p (length ys)) front ∙ ap (coefficients modulus) d ∙ lawful.leading;
         codes = codes_of f ms (coefficients modulus) front lawful.codes;
         residue_codes = residue_codes;

@@ -6,7 +6,7 @@ use Rattle.algebra.specs.Polynomial.{Below, HasDegree, IsPolynomial, add, coeffi
 use Rattle.algebra.specs.Remainder.{IsRemainder}
 use Rattle.algebra.proofs.Coefficients.{below_more, coefficients_below, degree_multiply, list_polynomial, multiply_polynomial, one_polynomial, subtract_polynomial}
 use Rattle.algebra.proofs.Reading.{joined_below, joined_new, joined_old}
-use Rattle.algebra.proofs.Residues.{congruent_division, congruent_multiply, congruent_refl, congruent_trans, coprime_not_shared, not_shared_coprime, remainder_congruent, share_factor_back}
+use Rattle.algebra.proofs.Residues.{congruent_division, congruent_multiply, congruent_refl, congruent_subtract, congruent_trans, coprime_not_shared, not_shared_coprime, remainder_congruent, share_factor_back}
 use Rattle.poly.specs.Slices.{Codes, capacity}
 use Rattle.reader.specs.States.{IsPair, IsState}
 use Rattle.reader.proofs.Tables.{front_codes, front_same}
@@ -26,12 +26,17 @@ module _ (f : Arithmetic) (L : FieldLaws f) (d : ℕ) (m M Y y : ℕ → ℕ) (h
       not_shared_coprime f L m r hm R.division.remainder_polynomial
       (λ shared. coprime_not_shared f L M m hM hm coprime (share_factor_back f L d M m R.quotient r hm R.division shared))
 
-  -- (y - Y)·M⁻¹ by way of the remainders of M and of y - Y.
+  -- The remainders of y and of Y differ by what y and Y differ by.
+  pub gap_congruent : (r n : ℕ → ℕ) → IsRemainder f d m y r → IsRemainder f d m Y n → Congruent f m (subtract f y Y) (subtract f r n)
+  gap_congruent r n R N =
+      congruent_subtract f L m y r Y n hm hy R.division.remainder_polynomial hY N.division.remainder_polynomial
+      (remainder_congruent f L d y m R.quotient r hm R.division) (remainder_congruent f L d Y m N.quotient n hm N.division)
+
+  -- (y - Y)·M⁻¹ by way of the remainder of M and of a polynomial congruent to y - Y.
   pub closes : (r w g c : ℕ → ℕ) → IsPolynomial f w → IsRemainder f d m M r → (Coprime f m r → Congruent f m (multiply f w r) one)
-      → IsRemainder f d m (subtract f y Y) g → IsRemainder f d m (multiply f g w) c → Coprime f M m → Congruent f m (add f Y (multiply f M c)) y
-  closes r w g c hw R inverts G C coprime =
+      → IsPolynomial f g → Congruent f m (subtract f y Y) g → IsRemainder f d m (multiply f g w) c → Coprime f M m → Congruent f m (add f Y (multiply f M c)) y
+  closes r w g c hw R inverts hg same C coprime =
       let hr = R.division.remainder_polynomial in
-      let hg = G.division.remainder_polynomial in
       let hc = C.division.remainder_polynomial in
       let hyY = subtract_polynomial f L y Y hy hY in
       let hgw = multiply_polynomial f L g w hg hw in
@@ -42,7 +47,7 @@ module _ (f : Arithmetic) (L : FieldLaws f) (d : ℕ) (m M Y y : ℕ → ℕ) (h
       (inverts (remainder_coprime r R coprime)) in
       let left =
       congruent_trans f L m (multiply f (subtract f y Y) w) (multiply f g w) c hm hyYw hgw hc
-      (congruent_multiply f L m (subtract f y Y) g w w hm hyY hg hw hw (remainder_congruent f L d (subtract f y Y) m G.quotient g hm G.division) (congruent_refl f L m w hm hw))
+      (congruent_multiply f L m (subtract f y Y) g w w hm hyY hg hw hw same (congruent_refl f L m w hm hw))
       (remainder_congruent f L d (multiply f g w) m C.quotient c hm C.division) in
       joined_new f L d m M w Y y left.by c hm hM hw hY hy inverse
       (congruent_division f L d (multiply f (subtract f y Y) w) m c hyYw hm hc C.division.remainder_below left)

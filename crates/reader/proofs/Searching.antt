@@ -1,11 +1,11 @@
 -- Euclid's extended algorithm stopped half-way, and the division of its remainder by its factor.
-use Rattle.std.proofs.Common.{◌≡◌, ℕ, ◌+◌, ◌-◌, ◌*◌, ◌<◌, ◌≤◌, ap, ◌∙◌, subst, inl, inr, arith}
+use Rattle.std.proofs.Common.{◌≡◌, ℕ, zero, suc, ◌+◌, ◌*◌, ◌≤◌, ℤ, pos, negsuc, ◌≤ℤ◌, ◌<ℤ◌, ap, ◌∙◌, subst, inl, inr, arith}
+use Rattle.std.proofs.lemmas.Int.{ints}
 use Rattle.algebra.specs.Field.{Arithmetic, FieldLaws}
-use Rattle.algebra.specs.Polynomial.{Below, HasDegree, IsDivision, IsPolynomial, add, coefficients, multiply}
+use Rattle.algebra.specs.Polynomial.{Below, DegreeIs, HasDegree, IsDivision, IsPolynomial, add, coefficients, multiply}
 use Rattle.algebra.specs.Theorems.{Stopped}
-use Rattle.algebra.proofs.Coefficients.{add_nought, below_nought, degree_one_only, multiply_comm, multiply_polynomial}
+use Rattle.algebra.proofs.Coefficients.{add_nought, below_more, below_nought, degree_one_only, multiply_comm, multiply_polynomial}
 use Rattle.poly.specs.Extended.{Steps}
-use Rattle.poly.specs.Slices.{Significant}
 use Rattle.poly.specs.declared.steps.Euclid.{Euclid}
 use Rattle.poly.proofs.Descending.{before_last}
 use Rattle.reader.proofs.Completeness.{exact_quotient}
@@ -47,9 +47,17 @@ module _ (f : Arithmetic) (L : FieldLaws f) (K d : ℕ) (r t q rest : ℕ → �
       V.is ∙ ap (λ (x : ℕ → ℕ). add f (multiply f q t) x) (below_nought rest z) ∙ add_nought f L (multiply f q t) (multiply_polynomial f L q t hq ht)
       ∙ multiply_comm f L q t hq ht
 
-  pub none_by_rest : (n : ℕ) → Significant rest n → 0 < n → (a : ℕ → ℕ) → IsPolynomial f a → Below K a → ¬ (r ≡ multiply f t a)
-  none_by_rest n s l a ha b e = omega (arith, s.leading l, ap (λ (x : ℕ → ℕ). x (n - 1)) (exact_quotient f L d r t a q rest ht ha e h V).1)
+  pub none_by_rest : (z : ℤ) → DegreeIs rest z → pos 0 ≤ℤ z → (a : ℕ → ℕ) → IsPolynomial f a → Below K a → ¬ (r ≡ multiply f t a)
+  none_by_rest (pos n) g l a ha b e = omega (arith, g.leading, ap (λ (x : ℕ → ℕ). x n) (exact_quotient f L d r t a q rest ht ha e h V).1)
+  none_by_rest (negsuc n) g l a ha b e = omega (arith, ints, l)
 
-  pub none_by_quotient : (n : ℕ) → Significant q n → K < n → (a : ℕ → ℕ) → IsPolynomial f a → Below K a → ¬ (r ≡ multiply f t a)
-  none_by_quotient n s l a ha b e =
-      omega (arith, s.leading (omega arith), ap (λ (x : ℕ → ℕ). x (n - 1)) (exact_quotient f L d r t a q rest ht ha e h V).0, b (n - 1) (omega arith))
+  pub none_by_quotient : (z : ℤ) → DegreeIs q z → pos K ≤ℤ z → (a : ℕ → ℕ) → IsPolynomial f a → Below K a → ¬ (r ≡ multiply f t a)
+  none_by_quotient (pos n) g l a ha b e =
+      omega (arith, ints, g.leading, ap (λ (x : ℕ → ℕ). x n) (exact_quotient f L d r t a q rest ht ha e h V).0, b n (omega (arith, ints, l)))
+  none_by_quotient (negsuc n) g l a ha b e = omega (arith, ints, l)
+
+-- A signed degree below n.
+pub low_degree : (p : ℕ → ℕ) (n : ℕ) (z : ℤ) → DegreeIs p z → z <ℤ pos n → Below n p
+low_degree p n (pos d) g l = below_more (suc d) n p (omega (arith, ints, l)) g.above
+low_degree p n (negsuc zero) g l = below_more 0 n p (omega arith) g
+low_degree p n (negsuc (suc k)) g l = absurd g

@@ -9,15 +9,15 @@ use Rattle.reader.specs.declared.answers.Reading.{Reading}
 use Rattle.reader.specs.declared.answers.ReaderFault.{ReaderFault}
 use Rattle.reader.specs.declared.answers.ReaderFault.TheVariants.{TooMuchMissing, NoMessage}
 
--- The message of a reading: the first K codes of its table.
-abbrev pub message_of : Scheme → Reading → List ℕ
-message_of s reading = take (message_length s) reading.message
+-- The message of a reading: the codes that count in its table.
+abbrev pub message_of : Reading → List ℕ
+message_of reading = take reading.count reading.message
 
 abbrev pub Answered : Scheme → Account → Result Reading ReaderFault → Type 0
 Answered s account (Ok reading) =
-    Within s account (message_of s reading)
-    × (reading.margin ≡ margin s account (message_of s reading))
-    × (reading.wrong ≡ wrong s account (message_of s reading))
+    Within s account (message_of reading)
+    × (reading.margin ≡ margin s account (message_of reading))
+    × (reading.wrong ≡ wrong s account (message_of reading))
 Answered s account (Err (TooMuchMissing excess)) =
     (word_length s - message_length s < missing s account) × (excess ≡ missing s account - (word_length s - message_length s))
 Answered s account (Err NoMessage) =

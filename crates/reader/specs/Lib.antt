@@ -3,4 +3,5 @@ pub mod Arrivals
 pub mod Finding
 pub mod Gathering
 pub mod Joining
+pub mod Sentences
 pub mod States

@@ -1,23 +1,26 @@
 //! What a reader answers.
-ghost use Rattle.std.specs.Prelude.{◌≡◌, take};
+ghost use Rattle.std.specs.Prelude.{◌≡◌, ◌≤◌, length, take, Some};
 ghost use Rattle.plan.specs.Held.{scheme};
 ghost use Rattle.plan.specs.Schemes.{message_length};
-ghost use Rattle.reader.specs.Answers.{message_of, reader_ground};
 
-use fault::{Fault, Ground, Layer};
+use fault::{Fault, Ground, Layer, ShortText};
 use field::Field;
 use plan::{MOST_TOTAL, Plan};
+use std::error::Error;
+use std::fmt;
 
 /// The codes that a message may have, so the codes of a message's table.
 pub const MESSAGE_TABLE: usize = MOST_TOTAL;
 
-/// The message within the allowance: a table, of which the plan's first K codes count, since nothing is allocated; its margin;
-/// and e, the degrees of the present positions whose residue differs from the message's.
+/// The message within the allowance, its margin, and e, the degrees of the present positions whose residue differs from the
+/// message's. The message stands in a table with zeros after its codes, since nothing is allocated.
 #[derive(Clone, Copy, PartialEq, Eq, Debug)]
 pub struct Reading {
-    pub message: [u16; MESSAGE_TABLE],
+    pub(crate) message: [u16; MESSAGE_TABLE],
+    pub(crate) count: usize,
     pub margin: i32,
     pub wrong: usize,
+    ghost fits: { count ≤ length message },
 }
 
 /// The message in a table: its first K codes.
@@ -28,11 +31,13 @@ pub(crate) fn message_in<'a, F: Field>(plan: &Plan<F>, table: &'a [u16; MESSAGE_
 }
 
 impl Reading {
-    /// The codes of the message.
-    pub fn codes<F: Field>(&self, plan: &Plan<F>) -> &[u16]
-        ensures { result.now ≡ message_of (scheme plan.now) self.now }
+    ghost use Rattle.reader.specs.Answers.{message_of};
+
+    /// The codes of the message, K of them.
+    pub fn codes(&self) -> &[u16]
+        ensures { result.now ≡ message_of self.now }
     {
-        message_in(plan, &self.message)
+        &self.message[0..self.count]
     }
 }
 
@@ -46,7 +51,13 @@ pub enum ReaderFault {
 }
 
 impl Fault for ReaderFault {
+    ghost use Rattle.fault.specs.Texts.{written};
+    ghost use Rattle.reader.specs.Answers.{reader_ground};
+    ghost use Rattle.reader.specs.Sentences.{longest_sentence, reader_sentence};
+
     ghost meaning = { reader_ground };
+
+    ghost saying = { reader_sentence };
 
     fn ground(&self) -> Ground {
         let (number, second) = match self {
@@ -60,4 +71,32 @@ impl Fault for ReaderFault {
             second,
         }
     }
+
+    fn sentence(&self) -> ShortText
+        ensures told { written result ≡ reader_sentence self.now }
+        ensures short { length (written result) ≤ longest_sentence }
+    {
+        match self {
+            ReaderFault::TooMuchMissing(excess) => {
+                ShortText::new("the degrees of the missing positions pass N - K by ").number(
+                    *excess,
+                )
+            }
+            ReaderFault::NoMessage => {
+                ShortText::new("no message lies within the allowance of what has arrived")
+            }
+        }
+    }
 }
+
+impl fmt::Display for ReaderFault {
+    ghost use Rattle.reader.specs.Sentences.{reader_sentence};
+
+    ghost output = { λ fault. Some (reader_sentence fault) };
+
+    fn fmt<W: fmt::Write>(&self, f: &mut fmt::Formatter<W>) -> fmt::Result {
+        f.write_str(self.sentence().as_str())
+    }
+}
+
+impl Error for ReaderFault {}

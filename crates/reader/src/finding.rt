@@ -7,7 +7,7 @@ ghost use Rattle.reader.specs.Finding.{Searched};
 use crate::answers::MESSAGE_TABLE;
 use crate::joining::Joined;
 use field::Field;
-use poly::{CAPACITY, Euclid, divide, significant};
+use poly::{CAPACITY, Euclid, divide};
 
 impl<F: Field> Joined<F> {
     /// Euclid's extended algorithm on M and Y, to the first remainder of degree below (D + K)/2; Y itself is the first.
@@ -30,10 +30,8 @@ impl<F: Field> Joined<F> {
         let euclid = self.half_way(message_length);
         let mut remainder = euclid.current;
         let mut quotient = [0; CAPACITY];
-        divide::<F>(&mut remainder, &euclid.t_current, &mut quotient);
-        let rest = significant(&remainder);
-        let codes = significant(&quotient);
-        if rest > 0 || codes > message_length {
+        let (degree, rest) = divide::<F>(&mut remainder, &euclid.t_current, &mut quotient);
+        if rest >= 0 || degree >= message_length as i32 {
             return None;
         }
         let mut message = [0; MESSAGE_TABLE];

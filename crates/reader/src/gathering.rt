@@ -48,7 +48,7 @@ impl<'a, F: Field> Arrived<'a, F> {
         let residue = self.usable_residue(i)?;
         Some(Congruence {
             field: PhantomData,
-            modulus: &self.plan.modulus(i)[0..residue.len() + 1],
+            modulus: self.plan.divisor(i),
             residue,
         })
     }

@@ -40,7 +40,7 @@ impl<F: Field> Joined<F> {
         }
     }
 
-    /// c of lower degree than the modulus, such that Y + M·c leaves the residue: (y − Y)·M⁻¹, reduced.
+    /// c of lower degree than the modulus, such that Y + M·c leaves the residue: (y − Y)·M⁻¹, all by their remainders.
     fn correction(&self, next: &Congruence<F>) -> [u16; CAPACITY]
         ensures codes { Codes F.Field.arithmetic result }
         ensures below { Below (length next.now.residue.now) (coefficients result) }
@@ -48,10 +48,8 @@ impl<F: Field> Joined<F> {
     {
         let degree = next.residue.len();
         let inverse = next.inverse_of(&next.remainder_of(&self.product));
-        let mut difference = [0; CAPACITY];
-        add_to::<F>(&mut difference, next.residue);
-        subtract_from::<F>(&mut difference, &self.value);
-        let gap = next.remainder_of(&difference);
+        let mut gap = next.remainder_of(next.residue);
+        subtract_from::<F>(&mut gap, &next.remainder_of(&self.value));
         let mut scaled = [0; CAPACITY];
         multiply::<F>(&gap[0..degree], &inverse[0..degree], &mut scaled);
         next.remainder_of(&scaled)

@@ -35,6 +35,7 @@ impl<'a, F: Field> Arrived<'a, F> {
         }
         Ok(Reading {
             message,
+            count: message_length,
             margin,
             wrong,
         })

@@ -13,11 +13,49 @@ use fault::Fault;
 use field::{Bytes, Clock, Field};
 use numbers::Numbers;
 use plan::{MODULUS_CODES, MOST_POSITIONS, Plan};
-use reader::{Arrived, MESSAGE_TABLE, ReaderFault, Reading, received};
+use reader::{Arrived, ReaderFault, Reading, received};
 use std::alloc::Global;
 use std::fmt;
 
-type Answer = Result<Reading, ReaderFault>;
+/// What the script expects a reader to answer where it reads.
+#[derive(Drop)]
+struct Expected {
+    message: Vec<u16>,
+    margin: i32,
+    wrong: usize,
+}
+
+/// A reading by what can be seen of it, whoever answers it.
+#[derive(Clone, Copy, PartialEq, Eq)]
+struct Decoded<'a> {
+    message: &'a [u16],
+    margin: i32,
+    wrong: usize,
+}
+
+type Answer<'a> = Result<Decoded<'a>, ReaderFault>;
+
+fn seen(answer: &Result<Reading, ReaderFault>) -> Answer<'_> {
+    match answer {
+        Ok(reading) => Ok(Decoded {
+            message: reading.codes(),
+            margin: reading.margin,
+            wrong: reading.wrong,
+        }),
+        Err(fault) => Err(*fault),
+    }
+}
+
+fn told(answer: &Result<Expected, ReaderFault>) -> Answer<'_> {
+    match answer {
+        Ok(reading) => Ok(Decoded {
+            message: &reading.message,
+            margin: reading.margin,
+            wrong: reading.wrong,
+        }),
+        Err(fault) => Err(*fault),
+    }
+}
 
 /// A copy of a word with some positions missing and some wrong.
 #[derive(Drop)]
@@ -28,7 +66,7 @@ struct Damaged {
     present: [bool; MOST_POSITIONS],
     /// The margin of the message that was sent.
     margin: i32,
-    answer: Answer,
+    answer: Result<Expected, ReaderFault>,
 }
 
 /// A message with its word, and copies of that.
@@ -66,24 +104,24 @@ fn refusal(text: &str) -> anyhow::Result<ReaderFault> {
     }
 }
 
-fn reading(text: &str) -> anyhow::Result<Reading> {
+fn reading(heap: Global, text: &str) -> anyhow::Result<Expected> {
     let mut words = text.split_whitespace();
     let margin = part(words.next())?.parse::<i32>()?;
     let wrong = part(words.next())?.parse::<usize>()?;
-    let mut message = [0; MESSAGE_TABLE];
-    for (code, word) in message.iter_mut().zip(words) {
-        *code = word.parse::<u16>()?;
+    let mut message = Vec::new(heap);
+    for word in words {
+        message.push(word.parse::<u16>()?)?;
     }
-    Ok(Reading {
+    Ok(Expected {
         message,
         margin,
         wrong,
     })
 }
 
-fn answer(text: &str) -> anyhow::Result<Answer> {
+fn answer(heap: Global, text: &str) -> anyhow::Result<Result<Expected, ReaderFault>> {
     match text.trim().split_once(' ') {
-        Some(("reads", rest)) => Ok(Ok(reading(rest)?)),
+        Some(("reads", rest)) => Ok(Ok(reading(heap, rest)?)),
         Some(("no", rest)) => Ok(Err(refusal(rest)?)),
         _ => Err(anyhow!("no such answer")),
     }
@@ -106,7 +144,7 @@ impl Damaged {
             codes,
             present,
             margin: part(parts.next())?.trim().parse::<i32>()?,
-            answer: answer(part(parts.next())?)?,
+            answer: answer(heap, part(parts.next())?)?,
         })
     }
 }
@@ -147,17 +185,14 @@ fn modulus(negative: u16) -> [u16; MODULUS_CODES]
 }
 
 /// An answer under a plan: as the input writes it, but a refusal as every refusal is shown.
-#[derive_where(Clone, Copy)]
-struct Answered<'a, F: Field> {
-    plan: &'a Plan<F>,
-    answer: &'a Answer,
-}
+#[derive(Clone, Copy)]
+struct Answered<'a>(Answer<'a>);
 
-impl<'a, F: Field> fmt::Display for Answered<'a, F> {
+impl<'a> fmt::Display for Answered<'a> {
     fn fmt<W: fmt::Write>(&self, f: &mut fmt::Formatter<W>) -> fmt::Result {
-        match self.answer {
+        match self.0 {
             Ok(reading) => {
-                let codes = Numbers(reading.codes(self.plan));
+                let codes = Numbers(reading.message);
                 write!(f, "reads {} {}{codes}", reading.margin, reading.wrong)
             }
             Err(fault) => write!(f, "{}", fault.ground()),
@@ -183,9 +218,9 @@ fn more(count: &mut u32) {
 
 impl Tally {
     /// Counts an answer that is the expected one.
-    fn count<F: Field>(&mut self, plan: &Plan<F>, sent: &[u16], answer: &Answer) {
+    fn count(&mut self, sent: &[u16], answer: &Answer) {
         more(match answer {
-            Ok(reading) if reading.codes(plan) == sent => &mut self.read_back,
+            Ok(reading) if reading.message == sent => &mut self.read_back,
             Ok(_) => &mut self.read_as_another,
             Err(ReaderFault::TooMuchMissing(_)) => &mut self.too_much_missing,
             Err(ReaderFault::NoMessage) => &mut self.no_message,
@@ -271,18 +306,12 @@ impl Case {
             )?;
         }
         let answer = arrived.read();
-        if answer == copy.answer {
-            tally.count(plan, &self.message, &answer);
+        let (came, expected) = (seen(&answer), told(&copy.answer));
+        if came == expected {
+            tally.count(&self.message, &came);
         } else {
             more(&mut tally.disagreements);
-            let came = Answered {
-                plan,
-                answer: &answer,
-            };
-            let expected = Answered {
-                plan,
-                answer: &copy.answer,
-            };
+            let (came, expected) = (Answered(came), Answered(expected));
             println!(rt; "line {line}, copy {number}: {came}, expected {expected}")?;
         }
         Ok(())

@@ -180,14 +180,14 @@ fn judge<F: Field>(
     let margin = arrived.measure(sent);
     match answer {
         Ok(reading) if margin >= 0 => {
-            if reading.codes(arrived.plan) == sent && reading.margin == margin {
+            if reading.codes() == sent && reading.margin == margin {
                 Outcome::Read
             } else {
                 Outcome::Missed
             }
         }
         Ok(reading) => {
-            let own = arrived.measure(reading.codes(arrived.plan));
+            let own = arrived.measure(reading.codes());
             if reading.margin >= 0 && own == reading.margin {
                 Outcome::Other
             } else {
@@ -200,14 +200,10 @@ fn judge<F: Field>(
 }
 
 /// Whether a search finds just what was read.
-fn is_found<F: Field>(
-    plan: &Plan<F>,
-    found: &[Vec<u16>],
-    answer: &Result<Reading, ReaderFault>,
-) -> bool {
+fn is_found(found: &[Vec<u16>], answer: &Result<Reading, ReaderFault>) -> bool {
     match (found, answer) {
         ([], Err(_)) => true,
-        ([only], Ok(reading)) => only.as_slice() == reading.codes(plan),
+        ([only], Ok(reading)) => only.as_slice() == reading.codes(),
         _ => false,
     }
 }
@@ -223,7 +219,7 @@ fn read<F: Field>(
     counts.count(judge(arrived, sent, &answer));
     if messages(arrived.plan) <= MOST_SEARCHED {
         more(&mut counts.searched);
-        if !is_found(arrived.plan, &search(heap, arrived)?, &answer) {
+        if !is_found(&search(heap, arrived)?, &answer) {
             more(&mut counts.search_differs);
         }
     }

@@ -1,6 +1,6 @@
 use Rattle.std.proofs.Common.{◌≡◌, ◌+◌, get_or, take, replicate, sym, refl, ap, ◌∙◌, arith, length-set}
 use Rattle.plan.specs.Schemes.{degree_of, total_degree}
-use Rattle.plan.proofs.Held.{only_zero, starts_more}
+use Rattle.plan.proofs.Held.{only_zero, starts_more, zeros_after, zeros_from}
 use Rattle.plan.proofs.Sizes.{total_degree_next}
 use Rattle.plan.proofs.drafts.Draft.starts.Goals as goal
 
@@ -10,6 +10,7 @@ loop-i-init c = (
   only_zero (λ j. get_or (replicate 25 0) j 0 ≡ total_degree (take j c.args.self.now.moduli.now)) refl,
   refl,
   omega arith,
+  zeros_from 25,
 )
 
 pub loop-i-preserved : goal.loop-i-preserved
@@ -26,7 +27,11 @@ loop-i-preserved c =
           (omega (arith, c.loop-i.invariant.0, c.loop-i-test.true, c.args.self.now.few)) c.loop-i.invariant.1 here,
       here,
       omega (arith, c.loop-i.invariant.3, c.degree_or_zero-end.ensures.bound),
+      zeros_after c.loop-i.starts i end c.loop-i.invariant.4,
     )
 
 pub returns : goal.returns
-returns c = λ f i h. c.loop-i.invariant.1 i (omega (arith, h, c.loop-i-test.false))
+returns c = record {
+  agree = λ f i h. c.loop-i.invariant.1 i (omega (arith, h, c.loop-i-test.false));
+  zeros = λ i h. c.loop-i.invariant.4 i (omega (arith, h, c.loop-i-test.false));
+}

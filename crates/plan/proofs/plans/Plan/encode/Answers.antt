@@ -2,7 +2,7 @@ use Rattle.std.proofs.Common.{ℕ, List, sym, subst, arith}
 use Rattle.plan.specs.Held.{scheme}
 use Rattle.plan.specs.Refusals.{HoldsRemainders}
 use Rattle.plan.specs.Schemes.{IsMessage}
-use Rattle.plan.proofs.Words.{word_holds_remainders}
+use Rattle.plan.proofs.Words.{encoded_remainders}
 use Rattle.plan.proofs.plans.Plan.encode.Goals as goal
 
 pub returns : goal.returns
@@ -14,5 +14,5 @@ returns g c =
       answer = (is, omega (arith, c.if-buffer-word_length.false, c.word_length.ensures), c.fill.ensures);
       remainders = λ _.
           subst (λ (codes : List ℕ). HoldsRemainders s message codes) (sym c.fill.ensures)
-          (word_holds_remainders s g.met.F.Field.lawful c.args.self.now.lawful message is);
+          (encoded_remainders s g.met.F.Field.lawful c.args.self.now.lawful message is.codes);
     }

@@ -1,8 +1,11 @@
-use Rattle.std.proofs.Common.{◌≡◌, ℕ, ◌+◌, ◌-◌, List, ◌++◌, length, take, sym, refl, ap, ◌∙◌, arith, length-drop, length-take}
+use Rattle.std.proofs.Common.{◌≡◌, ℕ, ◌+◌, ◌-◌, ◌<◌, List, ◌++◌, length, take, drop, sym, refl, ap, ◌∙◌, arith, length-drop, length-take}
 use Rattle.std.proofs.lemmas.List.{take_all}
 use Rattle.std.proofs.lemmas.Slice.{take-put_mid}
+use Rattle.algebra.specs.Polynomial.{coefficients}
+use Rattle.algebra.specs.Remainder.{remainder}
 use Rattle.plan.specs.Held.{scheme}
-use Rattle.plan.specs.Schemes.{degree, positions, residue, start, word_to}
+use Rattle.plan.specs.Schemes.{degree, divisor, modulus, positions, residue, start, word_to}
+use Rattle.plan.proofs.Divisors.{divisor_is, divisor_long, least_degree_of}
 use Rattle.plan.proofs.Records.{plan_ends}
 use Rattle.plan.proofs.Sizes.{residue_length, start_past, word_to_next}
 use Rattle.plan.proofs.plans.Plan.fill.Goals as goal
@@ -10,48 +13,40 @@ use Rattle.plan.proofs.plans.Plan.fill.Goals as goal
 pub loop-i-init : goal.loop-i-init
 loop-i-init g c = refl
 
-pub overflow_sub-end : goal.overflow_sub-end
-overflow_sub-end g c =
-    let ends = plan_ends c.args.self.now c.loop-i.i (omega (arith, c.loop-i-test.true, c.positions-i-end.ensures)) in
-    omega (arith, c.start-from.ensures, c.start-end.ensures)
-
 pub offset_bounds-buffer-from : goal.offset_bounds-buffer-from
 offset_bounds-buffer-from g c =
     let ends = plan_ends c.args.self.now c.loop-i.i (omega (arith, c.loop-i-test.true, c.positions-i-end.ensures)) in
     omega (arith, c.start-from.ensures)
 
-pub slice_bounds-copy_from_slice-count : goal.slice_bounds-copy_from_slice-count
-slice_bounds-copy_from_slice-count g c =
+pub slice_bounds-reduce-count : goal.slice_bounds-reduce-count
+slice_bounds-reduce-count g c =
     let ends = plan_ends c.args.self.now c.loop-i.i (omega (arith, c.loop-i-test.true, c.positions-i-end.ensures)) in
     omega (arith, c.start-from.ensures, c.start-end.ensures)
 
-pub slice_bounds-copy_from_slice-start : goal.slice_bounds-copy_from_slice-start
-slice_bounds-copy_from_slice-start g c =
+pub slice_bounds-reduce-start : goal.slice_bounds-reduce-start
+slice_bounds-reduce-start g c =
     let ends = plan_ends c.args.self.now c.loop-i.i (omega (arith, c.loop-i-test.true, c.positions-i-end.ensures)) in
     omega (arith, c.start-from.ensures, c.start-end.ensures)
 
-pub slice_bounds-copy_from_slice-end : goal.slice_bounds-copy_from_slice-end
-slice_bounds-copy_from_slice-end g c =
+pub slice_bounds-reduce-end : goal.slice_bounds-reduce-end
+slice_bounds-reduce-end g c =
     let ends = plan_ends c.args.self.now c.loop-i.i (omega (arith, c.loop-i-test.true, c.positions-i-end.ensures)) in
     omega (arith, c.start-from.ensures, c.start-end.ensures, c.loop-i.auto.buffer, c.requires)
 
-pub slice_bounds-copy_from_slice-end-in-loop-i : goal.slice_bounds-copy_from_slice-end-in-loop-i
-slice_bounds-copy_from_slice-end-in-loop-i g c =
-    let s = scheme c.args.self.now in
+pub reduce-requires : goal.reduce-requires
+reduce-requires g c =
+    let plan = c.args.self.now in
+    let s = scheme plan in
     let i = c.loop-i.i in
-    let ends = plan_ends c.args.self.now i (omega (arith, c.loop-i-test.true, c.positions-i-end.ensures)) in
-    let long : length (take (degree s i) c.residue-residue.result) ≡ degree s i = ap length c.residue-residue.ensures ∙ residue_length s c.args.message.now i in
-    let part = length-take (degree s i) c.residue-residue.result in
-    omega (arith, c.start-from.ensures, c.start-end.ensures, part, long)
-
-pub copy_from_slice-requires : goal.copy_from_slice-requires
-copy_from_slice-requires g c =
-    let s = scheme c.args.self.now in
-    let i = c.loop-i.i in
-    let ends = plan_ends c.args.self.now i (omega (arith, c.loop-i-test.true, c.positions-i-end.ensures)) in
-    let long : length (take (degree s i) c.residue-residue.result) ≡ degree s i = ap length c.residue-residue.ensures ∙ residue_length s c.args.message.now i in
-    let part = length-take (degree s i) c.residue-residue.result in
-    simp (length-take, length-drop) (omega (arith, c.start-from.ensures, c.start-end.ensures, c.loop-i.auto.buffer, c.requires, part, long))
+    let place : c.loop-i.i < positions (scheme c.args.self.now) = omega (arith, c.loop-i-test.true, c.positions-i-end.ensures) in
+    let ends = plan_ends plan i place in
+    let long = divisor_long s plan.lawful i place in
+    let same : length c.divisor.result.now ≡ length (divisor s i) = ap length c.divisor.ensures.value in
+    let least = least_degree_of s plan.lawful i place in
+    record {
+      least = simp (length-take, length-drop) (omega (arith, c.start-from.ensures, c.start-end.ensures, c.loop-i.auto.buffer, c.requires));
+      fits = simp (length-take, length-drop) (omega (arith, c.start-from.ensures, c.start-end.ensures, c.loop-i.auto.buffer, c.requires));
+    }
 
 pub loop-i-preserved : goal.loop-i-preserved
 loop-i-preserved g c =
@@ -60,11 +55,16 @@ loop-i-preserved g c =
     let i = c.loop-i.i in
     let from = c.start-from.result in
     let buffer = c.loop-i.buffer in
-    let part = c.copy_from_slice.new.self in
-    let ends = plan_ends c.args.self.now i (omega (arith, c.loop-i-test.true, c.positions-i-end.ensures)) in
-    let count : c.start-end.result - from - 0 ≡ degree s i = omega (arith, c.start-from.ensures, c.start-end.ensures) in
+    let part = c.reduce.new.residue in
+    let place : c.loop-i.i < positions (scheme c.args.self.now) = omega (arith, c.loop-i-test.true, c.positions-i-end.ensures) in
+    let ends = plan_ends c.args.self.now i place in
+    let before : List ℕ = take (c.start-end.result - from) (drop from buffer) in
+    let room : length before ≡ degree s i = simp (length-take, length-drop) (omega (arith, c.start-from.ensures, c.start-end.ensures, c.loop-i.auto.buffer, c.requires)) in
     let filled : part ≡ residue s message i =
-    c.copy_from_slice.ensures.after ∙ ap (λ n. take n c.residue-residue.result) count ∙ c.residue-residue.ensures in
+    c.reduce.ensures.value
+    ∙ ap (λ m. remainder s.arithmetic (length before) (coefficients m) message) c.divisor.ensures.value
+    ∙ ap (λ m. remainder s.arithmetic (length before) m message) (divisor_is s i)
+    ∙ ap (λ n. remainder s.arithmetic n (coefficients (modulus s i)) message) room in
     let long : length part ≡ degree s i = ap length filled ∙ residue_length s message i in
     take-put_mid from (c.start-end.result - from) buffer part (start s (i + 1)) (omega (arith, c.start-from.ensures)) (omega (arith, c.start-from.ensures, c.loop-i.auto.buffer, c.requires))
     ∙ ap (λ n. take n buffer ++ part) c.start-from.ensures

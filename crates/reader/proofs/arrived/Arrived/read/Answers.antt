@@ -1,7 +1,7 @@
-use Rattle.std.proofs.Common.{◌≡◌, ℕ, ◌≤◌, length, take, Some, None, ap, ◌∙◌, subst, arith, w32, to_z, of_z, rules}
+use Rattle.std.proofs.Common.{◌≡◌, ℕ, ◌≤◌, length, take, Some, None, sym, ap, ◌∙◌, subst, arith, w32, to_z, of_z, rules}
 use Rattle.std.proofs.lemmas.Int.{ints}
 use Rattle.algebra.specs.Polynomial.{coefficients}
-use Rattle.plan.specs.Accounts.{margin, wrong}
+use Rattle.plan.specs.Accounts.{Within, margin, wrong}
 use Rattle.plan.specs.Held.{scheme}
 use Rattle.plan.specs.Schemes.{message_length}
 use Rattle.plan.proofs.Sizes.{start_most}
@@ -83,16 +83,30 @@ returns-then-margin-lt0-clause-answer g c =
           c.in-Some.message facts.1 facts.2 (omega (arith, ints, facts.0, c.if-margin-lt0.true)),
     )
 
+pub invariant_of-result : goal.invariant_of-result
+invariant_of-result g c =
+    let p = c.args.self.now.plan.now in
+    let table : length c.in-Some.message ≡ 64 = search rules in
+    record { fits = omega (arith, c.message_length-message_length.ensures, start_most (scheme p) p.carriers, p.lawful.short) }
+
 pub returns-clause-answer : goal.returns-clause-answer
 returns-clause-answer g c =
     let self = c.args.self.now in
-    let facts = found g (goal.at.returns-clause-answer g c).After-margin_of-margin in (
+    let s = scheme self.plan.now in
+    let account = account_of self.residues.now in
+    let message = c.in-Some.message in
+    let facts = found g (goal.at.returns-clause-answer g c).After-margin_of-margin in
+    subst
+    (λ (n : ℕ).
+    Within s account (take n message)
+    × (to_z w32 (of_z w32 c.margin_of-margin.result) ≡ margin s account (take n message))
+    × (c.wrong_degrees-wrong.result ≡ wrong s account (take n message)))
+    (sym c.message_length-message_length.ensures) (
       record {
         is_message =
-            front_message self.plan.now g.met.F.Field.lawful (account_of self.residues.now) c.gather-joined.result
-            c.gather-joined.ensures c.in-Some.message facts.1 facts.2;
+            front_message self.plan.now g.met.F.Field.lawful account c.gather-joined.result c.gather-joined.ensures message facts.1 facts.2;
         margin_enough = omega (arith, ints, facts.0, c.if-margin-lt0.false);
       },
       facts.0,
-      c.wrong_degrees-wrong.ensures ∙ ap (wrong (scheme self.plan.now) (account_of self.residues.now)) c.message_in.ensures,
+      c.wrong_degrees-wrong.ensures ∙ ap (wrong s account) c.message_in.ensures,
     )
