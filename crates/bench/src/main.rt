@@ -1,4 +1,4 @@
-//! Two channels on a rack that is a laboratory's own twice over: its codes are nibbles, and it keeps each cell in two copies.
+//! Two channels on a rack that is a laboratory's own twice over: its codes are nibbles, and it keeps each cell in two forms.
 #![tactic(auto)]
 
 use anyhow::anyhow;

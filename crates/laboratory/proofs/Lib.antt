@@ -1,1 +1,3 @@
+pub mod Halving
 pub mod Products
+pub mod Showing

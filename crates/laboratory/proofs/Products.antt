@@ -1,10 +1,12 @@
 -- Products of nibbles, by tests that the checker computes.
-use Rattle.std.proofs.Common.{◌≡◌, ℕ, ◌*◌, ◌/◌, ◌%◌, ◌<◌, cond, ltb, sym, refl, ap, ◌∙◌}
+use Rattle.std.proofs.Common.{◌≡◌, ℕ, ◌*◌, ◌/◌, ◌%◌, ◌<◌, cond, ltb, sym, refl, ap, ◌∙◌, arith}
 use lib.Bits.{bit_xor, xor_assoc}
 use Rattle.std.proofs.lemmas.Bool.{ltb-true}
-use Rattle.algebra.specs.BitPolynomials.{carry_less}
+use Rattle.algebra.specs.BitPolynomials.{carry_less, reduce}
+use Rattle.algebra.specs.Theorems.{OneBitRemainder}
+use Rattle.algebra.proofs.BitReduction.{one_remainder, product_bits}
 use Rattle.algebra.proofs.Computed.{agree_below, agree_at_pairs, passes_below}
-use Rattle.laboratory.specs.Nibbles.{nibble_modulus, nibble_product, reduce}
+use Rattle.laboratory.specs.Nibbles.{nibble_modulus, nibble_product}
 
 pub by_x : (a : ℕ) → a < 16 → cond (ltb (2 * a) 16) (2 * a) (bit_xor (2 * a) nibble_modulus) ≡ nibble_product 2 a
 unfolding nibble_product reduce carry_less
@@ -27,3 +29,7 @@ by_bits = agree_at_pairs nibble_product (λ a b. bit_xor (b % 2 * a) (nibble_pro
 pub next : (sum a b : ℕ) → a < 16 → b < 16
     → bit_xor (bit_xor sum (b % 2 * a)) (nibble_product (nibble_product 2 a) (b / 2)) ≡ bit_xor sum (nibble_product a b)
 next sum a b ha hb = xor_assoc sum (b % 2 * a) (nibble_product (nibble_product 2 a) (b / 2)) ∙ ap (bit_xor sum) (sym (by_bits a b ha hb))
+
+pub product_remainder : (a b : ℕ) → a < 16 → b < 16 → OneBitRemainder 4 nibble_modulus (carry_less 4 a b) (nibble_product a b)
+unfolding nibble_product
+product_remainder a b ha hb = one_remainder 4 nibble_modulus (omega arith) (omega arith) 3 (carry_less 4 a b) (product_bits 4 3 a b ha)

@@ -1,2 +1,4 @@
+pub mod Forms
+pub mod Halves
 pub mod Nibbles
 pub mod Sixteen

@@ -1,6 +1,6 @@
 //! The field of sixteen elements: nibbles as polynomials of four bits, multiplied modulo x^4 + x + 1.
 ghost use Rattle.std.specs.Prelude.{◌≡◌, ◌<◌, refl};
-ghost use Rattle.laboratory.specs.Nibbles.{nibble_arithmetic, nibble_product};
+ghost use Rattle.laboratory.specs.Nibbles.{NibbleProductIsRemainder, nibble_arithmetic, nibble_product};
 ghost use Rattle.laboratory.specs.Sixteen.{sixteen};
 
 use field::Field;
@@ -44,6 +44,12 @@ fn multiply(a: u16, b: u16) -> u16
     }
     sum
 }
+
+/// The product of two nibbles is the remainder of their product as bit polynomials by 0x13. The function does nothing: it asks for the
+/// theorem.
+pub fn nibble_product_is_remainder()
+    ensures { NibbleProductIsRemainder }
+{}
 
 impl Field for Nibbles {
     const ORDER: u16 = 16;

@@ -8,7 +8,8 @@ use crate::limits::{MAX_TOP, held_len};
 
 /// A kind of cells, and how a row of them lies in a buffer.
 ///
-/// The ghost members are its meaning: the top, the row of all cells of a buffer, and the proof that the top is in its range.
+/// Its meaning are the ghost members `TOP` and `cells`: the top, and the row of all cells of a buffer. It keeps a law, `ranged`: the top is in
+/// its range.
 pub trait Cell {
     /// What the buffer is made of.
     type Unit;
@@ -19,8 +20,6 @@ pub trait Cell {
     ghost TOP: { ℕ };
 
     ghost cells: { List Self.Unit → List ℕ };
-
-    ghost ranged: { (1 ≤ TOP) × (TOP ≤ max_top) };
 
     /// How many cells a memory over this buffer has: all that lie in it, or `MAX_CELLS`.
     fn count(buffer: &[Self::Unit]) -> usize
@@ -37,6 +36,8 @@ pub trait Cell {
         requires inside { j < length (cells buffer.old) }
         requires small { v ≤ TOP }
         ensures { cells buffer.new ≡ slice_set (cells buffer.old) j v };
+
+    ghost ranged: { (1 ≤ TOP) × (TOP ≤ max_top) };
 }
 
 /// Cells of one byte.

@@ -4,13 +4,11 @@ ghost use Rattle.memory.specs.Meaning.{Bounded, Gets, Sets};
 
 /// A row of cells, numbered from 0, each a number from 0 to the memory's top.
 ///
-/// The first two ghost members are the memory's meaning, and the third is the proof that both are within their limits.
+/// Its meaning are the ghost members `cells` and `top`. It keeps a law, `bounded`: both are within their limits.
 pub trait Memory {
     ghost cells: { Self → List ℕ };
 
     ghost top: { Self → ℕ };
-
-    ghost bounded: { (m : Self) → Bounded (cells m) (top m) };
 
     /// How many cells there are.
     fn len(&self) -> usize
@@ -28,4 +26,6 @@ pub trait Memory {
     /// was accepted, and no error: which of the two a refusal was is plain from `len` and `top_value`.
     fn set(&mut self, j: usize, v: u16) -> bool
         ensures { Sets (cells self.old) (top self.old) j v result (cells self.new) (top self.new) };
+
+    ghost bounded: { (m : Self) → Bounded (cells m) (top m) };
 }

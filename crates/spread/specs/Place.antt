@@ -1,5 +1,5 @@
 -- Where the spreading layer finds each of its cells in the memory below it.
-use Rattle.std.specs.Prelude.{◌≡◌, ℕ, ◌+◌, ◌*◌, ◌/◌, ◌%◌, ◌<◌, Bool, false, cond, ◌&&◌, List, map, length, Some, None, Option, ◌==◌, nat_lt, slice_index}
+use Rattle.std.specs.Prelude.{◌≡◌, ℕ, ◌+◌, ◌*◌, ◌/◌, ◌%◌, ◌<◌, Bool, false, cond, ◌&&◌, List, map, length, Some, None, Option, ◌==◌, nat_lt, slice_index, codes}
 use Rattle.std.proofs.Common.{arith}
 use Rattle.std.specs.List.{range_with_len}
 use Rattle.std.proofs.lemmas.List.FromFn.{length-map-range_with_len}
@@ -10,6 +10,10 @@ use Rattle.memory.specs.Meaning.{Bounded, Gets, Sets}
 -- The ground on which a depth is refused.
 abbrev pub depth_ground : Ground
 depth_ground = record { number = 8; layer = Memory; first = 0; second = 0 }
+
+-- The same in a sentence without its full stop.
+abbrev pub depth_sentence : List ℕ
+depth_sentence = codes "the depth is 0, or does not divide the number of cells"
 
 -- Whether a depth divides a number of cells.
 abbrev pub divides : ℕ → ℕ → Bool

@@ -1,12 +1,14 @@
 //! The spreading layer: a memory whose neighbouring cells lie far apart in the memory below it.
 #![tactic(auto)]
 
-ghost use Rattle.std.specs.Prelude.{◌≡◌, ℕ, ◌<◌, ◌≤◌, true, false, length, MatchOption, MatchResult};
+ghost use Rattle.std.specs.Prelude.{◌≡◌, ℕ, ◌<◌, ◌≤◌, true, false, length, MatchOption, MatchResult, Some};
 ghost use Rattle.memory.specs.Meaning.{max_cells};
-ghost use Rattle.spread.specs.Place.{Missing, Permutes, Stands, depth_ground, divides, place, placed, spread_row, spread_row_bounded};
+ghost use Rattle.spread.specs.Place.{Missing, Permutes, Stands, depth_ground, depth_sentence, divides, place, placed, spread_row, spread_row_bounded};
 
-use fault::{Fault, Ground, Layer};
+use fault::{Fault, Ground, Layer, ShortText};
 use memory::{Memory, Returned};
+use std::error::Error;
+use std::fmt;
 
 /// The number of the ground on which a depth is refused.
 const DEPTH_GROUND: u8 = 8;
@@ -18,6 +20,8 @@ pub struct DepthFault;
 impl Fault for DepthFault {
     ghost meaning = { λ _. depth_ground };
 
+    ghost saying = { λ _. depth_sentence };
+
     fn ground(&self) -> Ground {
         Ground {
             number: DEPTH_GROUND,
@@ -26,7 +30,21 @@ impl Fault for DepthFault {
             second: 0,
         }
     }
+
+    fn sentence(&self) -> ShortText {
+        ShortText::new("the depth is 0, or does not divide the number of cells")
+    }
 }
+
+impl fmt::Display for DepthFault {
+    ghost output = { λ _. Some depth_sentence };
+
+    fn fmt<W: fmt::Write>(&self, f: &mut fmt::Formatter<W>) -> fmt::Result {
+        f.write_str(self.sentence().as_str())
+    }
+}
+
+impl Error for DepthFault {}
 
 /// A memory over another memory of L cells: cell j is the cell (j mod D) × (L div D) + (j div D) below, D being the depth.
 #[derive(Drop)]

@@ -2,9 +2,9 @@
 use Rattle.std.proofs.Common.{ℕ, sym, ◌∙◌, arith}
 use Rattle.std.proofs.lemmas.List.FromFn.{get_or-map-range_with_len}
 use Rattle.algebra.specs.Arithmetics.{reciprocal, such_that}
-use Rattle.algebra.specs.BitPolynomials.{carry_less}
+use Rattle.algebra.specs.BitPolynomials.{carry_less, reduce}
 use Rattle.algebra.proofs.Guarded.{on_code_inside}
-use Rattle.laboratory.specs.Nibbles.{nibble_product, reduce}
+use Rattle.laboratory.specs.Nibbles.{nibble_product}
 use Rattle.laboratory.proofs.nibbles.NibblesField.inverse.Goals as goal
 
 inverse : ℕ → ℕ
