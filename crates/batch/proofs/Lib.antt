@@ -1,3 +1,4 @@
 pub mod Promising
 pub mod Readings
+pub mod Saying
 pub mod Underway

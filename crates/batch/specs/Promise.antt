@@ -1,23 +1,18 @@
 -- The promise about arrangements: what every list of calls on a rack straight from its making keeps, and what any two readings
 -- under one plan have to do with one another.
-use Rattle.std.specs.Prelude.{◌≡◌, ℕ, ◌<◌, List, length, Some, None, Ok, Err, fold}
+use Rattle.std.specs.Prelude.{◌≡◌, ℕ, ◌<◌, List, length, take, Some, None, Ok, fold}
 use Rattle.field.specs.declared.Field as field
 use Rattle.memory.specs.declared.meaning.Memory as memory
-use Rattle.plan.specs.Accounts.{Account, Within, margin, wrong}
-use Rattle.plan.specs.Schemes.{Scheme, message_length}
-use Rattle.reader.specs.Answers.{Answered}
-use Rattle.reader.specs.declared.answers.ReaderFault.{ReaderFault}
-use Rattle.rack.specs.Channels.{channel_number}
-use Rattle.rack.specs.Ledger.{Ledger, Request, account_in, after, blank, judge, open_for, reads}
+use Rattle.plan.specs.Accounts.{Account, Within}
+use Rattle.plan.specs.Schemes.{Scheme}
+use Rattle.rack.specs.CanRead.{CanRead}
+use Rattle.rack.specs.Ledger.{Ledger, account_in, after, blank, judge, open_for, reads}
 use Rattle.rack.specs.Making.{Made}
 use Rattle.rack.specs.Racks.{state}
-use Rattle.rack.specs.States.{Agrees, IsRack, Performs, State, cells_at, state_after}
-use Rattle.rack.specs.Told.{Outcome}
+use Rattle.rack.specs.States.{Agrees, IsRack, State, state_after}
 use Rattle.rack.specs.declared.call.Answer.TheVariants.{Message}
 use Rattle.rack.specs.declared.call.Found.{Found}
 use Rattle.rack.specs.declared.channel.Channel.{Channel}
-use Rattle.rack.specs.declared.faults.RackFault.TheVariants.{Slot}
-use Rattle.rack.specs.declared.faults.SlotFault.TheVariants.{Unread}
 use Rattle.rack.specs.declared.table.Rack.{Rack}
 use Rattle.batch.specs.Lists.{Ran, entry_at, ledger_before, request_at, requests}
 use Rattle.batch.specs.declared.entry.Entry.{Entry}
@@ -46,6 +41,10 @@ load_of {memories = memories} loading done rack =
       rack = state rack;
     }
 
+-- The rack as the first n calls of the list leave it, where it was `start` when it was made.
+abbrev pub rack_at : Load → State → ℕ → State
+rack_at load start n = fold state_after start (requests (take n load.before))
+
 module _ (s : Scheme) where
   -- The ledger beside the list, from the rack's making: just before call i, and after the list.
   abbrev pub ledger_at : Load → ℕ → Ledger
@@ -70,13 +69,6 @@ module _ (s : Scheme) where
     pub accepted : (entry_at load.done i).outcome ≡ Some (Ok (Message found))
     pub filled : request_at load.done i ≡ reads channel slot codes
 
-  -- Call i, a read of this slot, was refused on ground 18 or 19, as the account says, and its buffer is as it was.
-  pub record GaveNone (load : Load) (i slot : ℕ) (account : Account) : Type 0 where
-    pub cause : ReaderFault
-    pub refused : (entry_at load.done i).outcome ≡ Some (Err (Slot slot (Unread cause)))
-    pub says : Answered s account (Err cause)
-    pub unfilled : request_at load.done i ≡ request_at load.before i
-
   -- Two readings are equal messages: both were accepted, and their buffers then hold the same codes.
   pub record EqualMessages (one other : Load) (i j : ℕ) (a b : Account) (here : IsReading one i a) (there : IsReading other j b) : Type 0 where
     pub codes : List ℕ
@@ -98,48 +90,25 @@ module _ (s : Scheme) where
         × (Within s a message × Within s b message
         → Gave one i here.channel here.slot message × Gave other j there.channel there.slot message)
 
-  -- The cells of each slot that the ledger has open hold the account's residue at each position present there.
-  abbrev pub HoldAccounts : Ledger → List ℕ → Type 0
-  HoldAccounts l cells =
-      (slot : ℕ) (channel : Channel) (account : Account) → l slot ≡ open_for channel account
-      → (i : ℕ) (residue : List ℕ) → account i ≡ Some residue → cells_at s cells slot i ≡ residue
-
   -- What one list of calls keeps.
   pub record Kept (load : Load) : Type 0 where
-    -- The rack was made of the memory and S, every slot closed, and is what the calls made of it, cell by cell and record by
-    -- record; it is a rack still; it agrees with the ledger, so that every further call on it is answered by that ledger.
+    -- The rack was made of the memory and S, every slot closed, and is what the calls made of it, cell by cell and
+    -- record by record; it is a rack still; it agrees with the ledger, so that every further call on it is answered by
+    -- that ledger.
     pub start : State
     pub made : Made s load.slots load.cells load.top start
     pub left : load.rack ≡ fold state_after start (requests load.before)
     pub is_rack : IsRack load.rack
     pub agrees : Agrees load.rack (ledger_left load)
-    -- Each call is answered as the ledger just before it says: refused by the first of the grounds 10 to 17 that it meets, what it was
-    -- given unaltered; else accepted, save a read that 18 or 19 refuses.
+    -- Each call is answered as the ledger just before it says: refused by the first of the grounds 10 to 17 that it
+    -- meets, what it was given unaltered; else accepted, save a read that 18 or 19 refuses.
     pub ran : Ran s load.slots blank load.before load.done
-    -- A reading of an account that no message is within is refused as the account says.
-    pub unread :
-        (i : ℕ) (account : Account) (reading : IsReading load i account)
-        → ((message : List ℕ) → ¬ (Within s account message)) → GaveNone load i reading.slot account
-    -- After any calls, a read by the slot's channel with a buffer of K codes gives the message within the allowance, with its
-    -- margin and e.
+    -- After the first n calls of the list, for every n: the channel that the ledger then has a slot open for can read
+    -- there each message within the allowance of the slot's account.
     pub can_read :
-        (i : ℕ) → i < length load.before
-        → (channel : Channel) (slot : ℕ) (buffer : List ℕ) → request_at load.before i ≡ reads (channel_number channel) slot buffer
-        → length buffer ≡ message_length s
-        → (account : Account) → ledger_at load i slot ≡ open_for channel account
+        (n slot : ℕ) (channel : Channel) (account : Account) → ledger_at load n slot ≡ open_for channel account
         → (message : List ℕ) → Within s account message
-        → ((entry_at load.done i).outcome ≡ Some (Ok (Message (record { margin = margin s account message; wrong = wrong s account message }))))
-        × (request_at load.done i ≡ reads (channel_number channel) slot message)
-    -- After the list, the cells of each slot that the ledger has open hold the account's residue at every position present there.
-    pub holds : HoldAccounts (ledger_left load) load.rack.cells
-    -- A read made next on the rack that is given back, by the slot's channel with a buffer of K codes, gives the message within the
-    -- allowance of the account that the list leaves.
-    pub reads_next :
-        (channel : Channel) (slot : ℕ) (buffer : List ℕ) → length buffer ≡ message_length s
-        → (account : Account) → ledger_left load slot ≡ open_for channel account → (message : List ℕ) → Within s account message
-        → (outcome : Outcome) (r' : State) (given : Request) → Performs load.rack (reads (channel_number channel) slot buffer) outcome r' given
-        → (outcome ≡ Ok (Message (record { margin = margin s account message; wrong = wrong s account message })))
-        × (given ≡ reads (channel_number channel) slot message)
+        → CanRead (rack_at load start n) slot channel account message
     -- Any two readings of the list are equal messages exactly when one message lies within both allowances.
     pub same_within : SameMessages load load
 

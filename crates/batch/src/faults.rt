@@ -1,12 +1,15 @@
 //! Why lists of calls are not run: no plan, or a memory that does not fit.
-ghost use Rattle.std.specs.Prelude.{◌≡◌};
+ghost use Rattle.std.specs.Prelude.{◌≡◌, Some};
 ghost use Rattle.batch.specs.Refusals.{load_ground, pair_ground};
+ghost use Rattle.batch.specs.Sentences.{load_sentence, pair_sentence};
 ghost use Rattle.batch.specs.declared.faults.LoadFault.TheVariants as load;
 ghost use Rattle.batch.specs.declared.faults.PairFault.TheVariants as pair;
 
-use fault::{Fault, Ground};
+use fault::{Fault, Ground, ShortText};
 use plan::PlanFault;
 use rack::FitFault;
+use std::error::Error;
+use std::fmt;
 
 /// Why no rack was made.
 #[derive(Clone, Copy, PartialEq, Eq, Debug)]
@@ -20,13 +23,32 @@ pub enum LoadFault {
 impl Fault for LoadFault {
     ghost meaning = { load_ground };
 
+    ghost saying = { load_sentence };
+
     fn ground(&self) -> Ground {
         match self {
             LoadFault::Plan(fault) => fault.ground(),
             LoadFault::Rack(fault) => fault.ground(),
         }
     }
+
+    fn sentence(&self) -> ShortText {
+        match self {
+            LoadFault::Plan(fault) => fault.sentence(),
+            LoadFault::Rack(fault) => fault.sentence(),
+        }
+    }
 }
+
+impl fmt::Display for LoadFault {
+    ghost output = { λ fault. Some (load_sentence fault) };
+
+    fn fmt<W: fmt::Write>(&self, f: &mut fmt::Formatter<W>) -> fmt::Result {
+        f.write_str(self.sentence().as_str())
+    }
+}
+
+impl Error for LoadFault {}
 
 impl From<PlanFault> for LoadFault {
     ghost from_gives = { λ cause fault. fault ≡ load.Plan cause };
@@ -66,6 +88,8 @@ impl From<PlanFault> for PairFault {
 impl Fault for PairFault {
     ghost meaning = { pair_ground };
 
+    ghost saying = { pair_sentence };
+
     fn ground(&self) -> Ground {
         match self {
             PairFault::Plan(fault) => fault.ground(),
@@ -73,4 +97,26 @@ impl Fault for PairFault {
             PairFault::Second(fault) => fault.ground(),
         }
     }
+
+    fn sentence(&self) -> ShortText {
+        match self {
+            PairFault::Plan(fault) => fault.sentence(),
+            PairFault::First(fault) => {
+                ShortText::new("of the first rack, ").text(fault.sentence().as_str())
+            }
+            PairFault::Second(fault) => {
+                ShortText::new("of the second rack, ").text(fault.sentence().as_str())
+            }
+        }
+    }
 }
+
+impl fmt::Display for PairFault {
+    ghost output = { λ fault. Some (pair_sentence fault) };
+
+    fn fmt<W: fmt::Write>(&self, f: &mut fmt::Formatter<W>) -> fmt::Result {
+        f.write_str(self.sentence().as_str())
+    }
+}
+
+impl Error for PairFault {}

@@ -9,6 +9,7 @@ use Rattle.algebra.specs.Polynomial.{Below, IsPolynomial, ShareFactor, add, coef
 use Rattle.algebra.proofs.Coefficients.{below_add, below_more, below_multiply, coefficients_below, list_polynomial, monomial_off}
 use Rattle.algebra.proofs.Computed.{agree_below, all_below, passes_below}
 use Rattle.algebra.proofs.Residues.{coprime_not_shared}
+use Rattle.plan.specs.Schemes.{IsModulus, degree_of}
 use Rattle.plan.proofs.Numbers.{codes_throughout}
 
 -- Coefficient functions that are 0 from n on, and agree before, are equal.
@@ -28,6 +29,11 @@ module _ (f : Arithmetic) (L : FieldLaws f) where
 
   pub codes_polynomial : (xs : List ℕ) → AllCodes f xs → IsPolynomial f (coefficients xs)
   codes_polynomial xs t = list_polynomial f L xs (all_codes xs t)
+
+  -- A list of codes whose leading one is 1 is a modulus.
+  pub is_modulus : (m : List ℕ) (d : ℕ) → AllCodes f m → degree_of m ≡ d → 1 ≤ d → coefficients m d ≡ 1 → IsModulus f m
+  is_modulus m d codes degree_is least leading =
+      record { codes = all_codes m codes; proper = omega (arith, degree_is); leading = rw degree_is leading }
 
   -- A product has no more codes than its factors together.
   product_below : (xs ys : List ℕ) (n : ℕ) → AllCodes f xs → AllCodes f ys → length xs + length ys ≤ n

@@ -10,22 +10,18 @@ use Rattle.algebra.specs.Remainder.{remainder}
 use Rattle.algebra.proofs.Bytes.{bytes}
 use Rattle.algebra.proofs.Computed.{all_below}
 use Rattle.plan.specs.Accounts.{Account, Within, same}
-use Rattle.plan.specs.Schemes.{AreModuli, Clash, IsModulus, IsScheme, degree_of, residue}
+use Rattle.plan.specs.Schemes.{AreModuli, Clash, IsScheme, residue}
 use Rattle.plan.proofs.Uniqueness.{one_within}
 use Rattle.examples.specs.Plans.{Q, z, z+1, z+2, z+3}
 use Rattle.examples.specs.Readings.{arrived, two_changed}
 use Rattle.examples.proofs.Allowances.{lies_within}
-use Rattle.examples.proofs.Places.{AllCodes, all_codes, not_shared_by_places}
-
-is_modulus : (m : List ℕ) → AllCodes byte_arithmetic m → degree_of m ≡ 1 → coefficients m 1 ≡ 1 → IsModulus byte_arithmetic m
-is_modulus m codes d leading =
-    record { codes = all_codes byte_arithmetic bytes m codes; proper = omega arith; leading = rw d leading }
+use Rattle.examples.proofs.Places.{AllCodes, is_modulus, not_shared_by_places}
 
 moduli : AreModuli Q
-moduli zero l = is_modulus z refl refl refl
-moduli (suc zero) l = is_modulus z+1 refl refl refl
-moduli (suc (suc zero)) l = is_modulus z+2 refl refl refl
-moduli (suc (suc (suc zero))) l = is_modulus z+3 refl refl refl
+moduli zero l = is_modulus byte_arithmetic bytes z 1 refl refl (omega arith) refl
+moduli (suc zero) l = is_modulus byte_arithmetic bytes z+1 1 refl refl (omega arith) refl
+moduli (suc (suc zero)) l = is_modulus byte_arithmetic bytes z+2 1 refl refl (omega arith) refl
+moduli (suc (suc (suc zero))) l = is_modulus byte_arithmetic bytes z+3 1 refl refl (omega arith) refl
 moduli (suc (suc (suc (suc i)))) l = absurd (omega arith)
 
 -- k · (z + c) + k · (z + d) = 1 where k is the inverse of c + d: 1 of 1, 142 of 2 and 244 of 3.

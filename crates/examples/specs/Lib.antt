@@ -1,6 +1,7 @@
 pub mod Expressions
 pub mod Factors
 pub mod Fields
+pub mod Grounds
 pub mod Layer
 pub mod Ledger
 pub mod Plans

@@ -2,6 +2,7 @@
 use Rattle.examples.specs.Expressions.{ExpressionExamples}
 use Rattle.examples.specs.Factors.{FactorExamples}
 use Rattle.examples.specs.Fields.{FieldExamples}
+use Rattle.examples.specs.Grounds.{GroundTable}
 use Rattle.examples.specs.Layer.{LayerExamples}
 use Rattle.examples.specs.Ledger.{LedgerExamples}
 use Rattle.examples.specs.Readings.{ReadingExamples}
@@ -15,3 +16,4 @@ pub record WorkedExamples : Type 0 where
   pub layer : LayerExamples
   pub expressions : ExpressionExamples
   pub ledger : LedgerExamples
+  pub grounds : GroundTable

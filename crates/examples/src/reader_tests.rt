@@ -22,7 +22,7 @@ fn presence(first: &[bool]) -> [bool; MOST_POSITIONS] {
     array::from_fn(|i| first.get(i).copied().unwrap_or(false))
 }
 
-// Reads the codes at the positions that are present, and compares the first two codes of the message and its margin. What has arrived is
+// Reads the codes at the positions that are present, and compares the message and its margin. What has arrived is
 // put together in each function that needs it, since it lends residues that live no longer.
 fn reads<F: Field>(
     rt: &impl Abort,
@@ -38,7 +38,7 @@ fn reads<F: Field>(
         residues: &residues,
     };
     let reading = arrived.read()?;
-    assert_eq!(rt; [reading.message[0], reading.message[1]], message);
+    assert_eq!(rt; reading.codes(), message.as_slice());
     assert_eq!(rt; reading.margin, margin);
     Ok(())
 }

@@ -38,7 +38,7 @@ account_used r channel slot e =
 module _ (s : Scheme) (account shown_account : Account) (same : shown_account ≡ account) (slot : ℕ) (before : List ℕ) where
   pub reading_found : (result : Result Reading SlotFault) (reading : Reading) (buffer : List ℕ) (found : Found)
       → MatchResult result (λ x. ◌≡◌ {A = Result Reading RackFault} (Ok reading) (Ok x)) (λ cause. ⊥)
-      → SlotRead s account result → buffer ≡ message_of s reading
+      → SlotRead s account result → buffer ≡ message_of reading
       → found.margin ≡ reading.margin → found.wrong ≡ reading.wrong → ReadAs s shown_account slot before buffer (Ok (Message found))
   reading_found (Ok x) reading buffer found is answered filled margin_is wrong_is =
       let given : reading ≡ x = cc in

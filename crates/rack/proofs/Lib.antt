@@ -1,11 +1,14 @@
 pub mod Altering
 pub mod Answering
+pub mod Determining
 pub mod Judging
+pub mod Leaving
 pub mod Loading
 pub mod Numbers
 pub mod Overwriting
 pub mod Owning
 pub mod Passing
 pub mod Performing
+pub mod Readable
 pub mod Showing
 pub mod Storing

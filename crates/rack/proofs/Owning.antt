@@ -153,7 +153,7 @@ pub own_residues : OwnResidues
 own_residues s S calls = owned_more s S [] calls (λ slot channel i residue stands. absurd stands)
 
 -- What a slot's account has stands there for the channel that holds the slot.
-account_stands : (entry : SlotState) (channel : Channel) (i : ℕ) (residue : List ℕ) → holder entry ≡ Some channel
+pub account_stands : (entry : SlotState) (channel : Channel) (i : ℕ) (residue : List ℕ) → holder entry ≡ Some channel
     → account_in entry i ≡ Some residue → Stands entry channel i residue
 account_stands closed channel i residue held is = cc
 account_stands (open_for owner account) channel i residue held is = let same : owner ≡ channel = cc in (same, is)

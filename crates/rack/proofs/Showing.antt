@@ -2,7 +2,7 @@
 use Rattle.std.proofs.Common.{◌≡◌, ℕ, ◌+◌, ◌*◌, ◌<◌, ◌≤◌, Bool, true, false, cond, eqb, ltb, ◌≢◌, ◌⊎◌, List, [], length, get_or, take, drop, replicate, is_some, Some, None, Option, sym, refl, ap, ◌∙◌, inl, inr, arith}
 use mathlib.Core.Path.{fun_ext}
 use Rattle.std.proofs.lemmas.Nat.{mul-le}
-use Rattle.std.proofs.lemmas.List.{get_or_past, get_or-replicate, get_or-set_other, get_or-set_same}
+use Rattle.std.proofs.lemmas.List.{get_or_past, get_or-replicate, get_or-set_other, get_or-set_same, length-replicate}
 use Rattle.std.proofs.lemmas.Bool.{cases_lt, cond-true, eqb-true, eqb-false, lt-ltb}
 use Rattle.plan.specs.Accounts.{Account}
 use Rattle.plan.specs.Limits.{most_positions}
@@ -131,12 +131,12 @@ written l l' slot entry here beside t = go (eqb t slot) refl
     go true e = ap l' (eqb-true t slot e) ∙ here
     go false e = beside t (eqb-false t slot e)
 
--- No position is present where every mark is false.
-no_marks : (i : ℕ) → get_or (replicate most_positions false) i false ≡ false
-no_marks i =
-    elim (cases_lt i most_positions) [
-      | inl l ↦ get_or-replicate most_positions i false false l
-      | inr l ↦ get_or_past (replicate most_positions false) i false l
+-- A list of one value has that value at each place, and past its end too where that is what a place past the end is taken for.
+pub all_alike : {A : Type 0} (n i : ℕ) (x : A) → get_or (replicate n x) i x ≡ x
+all_alike n i x =
+    elim (cases_lt i n) [
+      | inl l ↦ get_or-replicate n i x x l
+      | inr l ↦ get_or_past (replicate n x) i x (omega (arith, length-replicate n x))
     ]
 
 module _ (r : State) (rack : IsRack r) where
@@ -144,7 +144,7 @@ module _ (r : State) (rack : IsRack r) where
   recorded : (slot : ℕ) → slot < r.slots → slot < length r.records
   recorded slot inside = omega (arith, rack.fits.few, rack.table)
 
-  markable : (slot position : ℕ) → slot < r.slots → position < positions r.scheme → position < length (record_at r slot).present
+  pub markable : (slot position : ℕ) → slot < r.slots → position < positions r.scheme → position < length (record_at r slot).present
   markable slot position inside there = omega (arith, rack.lawful.few, rack.marks slot inside)
 
   -- A residue of the right length has its place among the cells.
@@ -195,7 +195,7 @@ module _ (r : State) (rack : IsRack r) where
       record_shown slot (open_judged r.scheme r.slots (shown r) channel slot e)
       (record { owner = Some (channel_numbered channel); present = replicate most_positions false }) r.cells (λ t other i. refl) t
       ∙ ap (λ (x : Account). write (shown r) slot (open_for (channel_numbered channel) x) t)
-      (fun_ext (λ i. ap (λ (m : Bool). seen m (cells_at r.scheme r.cells slot i)) (no_marks i)))
+      (fun_ext (λ i. ap (λ (m : Bool). seen m (cells_at r.scheme r.cells slot i)) (all_alike most_positions i false)))
   shown_changed (puts channel slot position residue) e t =
       let judged = put_judged r.scheme r.slots (shown r) channel slot position residue e in
       let long = judged.2 in

@@ -1,3 +1,4 @@
+pub mod CanRead
 pub mod Channels
 pub mod Checks
 pub mod Grounds
@@ -7,6 +8,7 @@ pub mod Limits
 pub mod Making
 pub mod Racks
 pub mod Reads
+pub mod Sentences
 pub mod States
 pub mod Stored
 pub mod Told

@@ -7,6 +7,7 @@ use Rattle.reader.specs.declared.answers.ReaderFault.{ReaderFault}
 use Rattle.rack.specs.Ledger.{Ledger, Request, account_in, closes, judge, measures, opens, puts, reads, strikes}
 use Rattle.rack.specs.declared.call.Answer.{Answer}
 use Rattle.rack.specs.declared.call.Answer.TheVariants.{Done, Margin, Message}
+use Rattle.rack.specs.declared.call.Found.{Found}
 use Rattle.rack.specs.declared.faults.RackFault.{RackFault}
 use Rattle.rack.specs.declared.faults.RackFault.TheVariants.{Slot}
 use Rattle.rack.specs.declared.faults.SlotFault.TheVariants.{Unread}
@@ -16,6 +17,10 @@ abbrev pub Outcome : Type 0
 Outcome = Result Answer RackFault
 
 module _ (s : Scheme) where
+  -- What an accepted reading of an account says of its message.
+  abbrev pub found_for : Account → List ℕ → Found
+  found_for account message = record { margin = margin s account message; wrong = wrong s account message }
+
   -- A reading of an account. Accepted: the buffer then holds the message within the allowance, and margin and e are that
   -- message's. Refused: the buffer is as it was, and the account says why there is no message.
   abbrev pub ReadAs : Account → (slot : ℕ) → (before buffer : List ℕ) → Outcome → Type 0

@@ -1,16 +1,14 @@
 //! The six calls. Each checks what it is given first, and changes one record at most.
 //!
 //! A call is named with its channel and its slot as plain numbers. Any two may come, and each has a check of its own, so a struct
-//! of them would be taken apart at once. A record is written through a name for its table: the check does not cover a write into a
-//! struct with a ghost field that lies within another.
+//! of them would be taken apart at once.
 ghost use Rattle.std.specs.Prelude.{◌≡◌, ◌<◌};
 ghost use Rattle.memory.specs.Meaning.{Sets};
 ghost use Rattle.plan.specs.Held.{scheme};
-ghost use Rattle.reader.specs.Arrivals.{received};
 ghost use Rattle.rack.specs.Ledger.{closes, measures, opens, puts, reads, strikes};
 ghost use Rattle.rack.specs.Racks.{CallOn, done, found, margin_told, state};
-ghost use Rattle.rack.specs.Reads.{SlotRead};
-ghost use Rattle.rack.specs.States.{account_of, record_at};
+ghost use Rattle.rack.specs.Reads.{SlotRead, WordOf};
+ghost use Rattle.rack.specs.States.{account_of};
 
 use crate::call::Found;
 use crate::cells::{load, store};
@@ -28,8 +26,7 @@ impl<F: Field, M: Memory> Rack<F, M> {
         ensures { CallOn self.old (opens channel slot) (done result) self.new (opens channel slot) }
     {
         let opener = self.slots.may_open(channel, slot)?;
-        let slots = &mut self.slots;
-        slots.records[slot].open(opener);
+        self.slots.records[slot].open(opener);
         Ok(())
     }
 
@@ -47,8 +44,7 @@ impl<F: Field, M: Memory> Rack<F, M> {
         check_residue(&self.plan, slot, position, residue)?;
         let at = slot * self.plan.word_length() + self.plan.start(position);
         store(&mut self.memory, at, residue);
-        let slots = &mut self.slots;
-        slots.records[slot].mark(position, true);
+        self.slots.records[slot].mark(position, true);
         Ok(())
     }
 
@@ -58,8 +54,7 @@ impl<F: Field, M: Memory> Rack<F, M> {
     {
         self.slots.may_use(channel, slot)?;
         check_position(&self.plan, slot, position)?;
-        let slots = &mut self.slots;
-        slots.records[slot].mark(position, false);
+        self.slots.records[slot].mark(position, false);
         Ok(())
     }
 
@@ -72,7 +67,7 @@ impl<F: Field, M: Memory> Rack<F, M> {
         let reading = self
             .read_slot(slot)
             .map_err(|cause| RackFault::Slot(slot, cause))?;
-        buffer.copy_from_slice(reading.codes(&self.plan));
+        buffer.copy_from_slice(reading.codes());
         Ok(Found {
             margin: reading.margin,
             wrong: reading.wrong,
@@ -99,8 +94,7 @@ impl<F: Field, M: Memory> Rack<F, M> {
         ensures { CallOn self.old (closes channel slot) (done result) self.new (closes channel slot) }
     {
         self.slots.may_use(channel, slot)?;
-        let slots = &mut self.slots;
-        slots.records[slot].close();
+        self.slots.records[slot].close();
         Ok(())
     }
 
@@ -117,7 +111,7 @@ impl<F: Field, M: Memory> Rack<F, M> {
     // The slot's cells, zeros after them.
     fn word(&self, slot: usize) -> [u16; MOST_TOTAL]
         requires { slot < self.now.slots.count }
-        ensures { received (scheme self.now.plan) result (record_at (state self.now) slot).present ≡ account_of (state self.now) slot }
+        ensures { WordOf (state self.now) slot result }
     {
         let count = self.plan.word_length();
         load(&self.memory, slot * count, count)

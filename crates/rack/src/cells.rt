@@ -1,8 +1,8 @@
 //! Codes in the cells of a memory.
-ghost use Rattle.std.specs.Prelude.{◌≡◌, ◌+◌, ◌≤◌, length, take, drop, slice_index};
+ghost use Rattle.std.specs.Prelude.{◌≡◌, ◌+◌, ◌≤◌, length, slice_index};
 ghost use Rattle.memory.specs.Meaning.{max_cells};
 ghost use Rattle.plan.specs.Limits.{most_total};
-ghost use Rattle.rack.specs.Stored.{Stored};
+ghost use Rattle.rack.specs.Stored.{Loaded, Stored};
 
 use memory::Memory;
 use plan::MOST_TOTAL;
@@ -24,12 +24,13 @@ fn cell<M: Memory>(memory: &M, j: usize) -> u16
     memory.get(j).unwrap_or(0)
 }
 
-/// The `count` cells from `at` on, in a table that has zeros after them. It is filled by place: once an adapter of `iter_mut`
-/// is done nothing is known of the table, and `array::from_fn` wants a closure with a `requires` and a branch for the zeros.
+/// The `count` cells from `at` on, in a table that has zeros after them, and where there is no cell. It is filled by
+/// place: once an adapter of `iter_mut` is done nothing is known of the table, and `array::from_fn` wants a closure
+/// with a `requires` and a branch for the zeros.
 pub(crate) fn load<M: Memory>(memory: &M, at: usize, count: usize) -> [u16; MOST_TOTAL]
     requires place { at + count ≤ max_cells }
     requires few { count ≤ most_total }
-    ensures { at + count ≤ length (M.cells memory.now) → take count result ≡ take count (drop at (M.cells memory.now)) }
+    ensures { Loaded (M.cells memory.now) at count result }
 {
     let mut table = [0; MOST_TOTAL];
     for i in 0..count {

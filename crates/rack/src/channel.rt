@@ -39,13 +39,22 @@ impl TryFrom<usize> for Channel {
     }
 }
 
+impl Channel {
+    /// The letter of the channel, as a line that is printed names it.
+    pub fn letter(self) -> &'static str
+        ensures { result.now ≡ channel_letter self }
+    {
+        match self {
+            Channel::A => "A",
+            Channel::B => "B",
+        }
+    }
+}
+
 impl fmt::Display for Channel {
     ghost output = { λ channel. Some (channel_letter channel) };
 
     fn fmt<W: fmt::Write>(&self, f: &mut fmt::Formatter<W>) -> fmt::Result {
-        f.write_str(match self {
-            Channel::A => "A",
-            Channel::B => "B",
-        })
+        f.write_str(self.letter())
     }
 }

@@ -1,10 +1,11 @@
 //! Whether a channel may open or use a slot, and whether what a call is given fits the plan. A check takes the slot to name it in its fault,
 //! which each call would else have to add behind each check.
-ghost use Rattle.std.specs.Prelude.{◌≡◌};
+ghost use Rattle.std.specs.Prelude.{◌≡◌, ◌≤◌};
 ghost use Rattle.plan.specs.Held.{scheme};
 ghost use Rattle.rack.specs.Channels.{channel_numbered};
 ghost use Rattle.rack.specs.Checks.{checked, granted, message_ground, named_ground, open_ground, owners, residue_ground, settled, use_ground};
 ghost use Rattle.rack.specs.Ledger.{code_fault, first_beyond, no_position, wrong_length};
+ghost use Rattle.rack.specs.Limits.{most_slots};
 
 use crate::channel::Channel;
 use crate::faults::{RackFault, SlotFault};
@@ -15,6 +16,7 @@ use plan::{Plan, first_no_code};
 impl Slots {
     // The channel of the number, and who holds the slot, if there are both.
     fn named(&self, channel: usize, slot: usize) -> Result<(Channel, Option<Channel>), RackFault>
+        requires { self.now.count ≤ most_slots }
         ensures { result ≡ checked (channel_numbered channel, owners self.now.records slot) (named_ground self.now.count channel slot) }
     {
         let channel = Channel::try_from(channel)?;
@@ -26,6 +28,7 @@ impl Slots {
 
     /// The channel of the number, if it may open the slot.
     pub(crate) fn may_open(&self, channel: usize, slot: usize) -> Result<Channel, RackFault>
+        requires { self.now.count ≤ most_slots }
         ensures { result ≡ granted channel (open_ground self.now.count (owners self.now.records) channel slot) }
     {
         match self.named(channel, slot)? {
@@ -36,6 +39,7 @@ impl Slots {
 
     /// Whether the channel may use the slot: it is open, and the channel's.
     pub(crate) fn may_use(&self, channel: usize, slot: usize) -> Result<(), RackFault>
+        requires { self.now.count ≤ most_slots }
         ensures { result ≡ settled (use_ground self.now.count (owners self.now.records) channel slot) }
     {
         match self.named(channel, slot)? {

@@ -19,4 +19,7 @@ pub use channel::Channel;
 pub use faults::{FitFault, RackFault, SlotFault};
 pub use limits::MOST_SLOTS;
 pub use table::Rack;
-pub use theorems::{calls_alter_their_own, residues_are_the_channels_own};
+pub use theorems::{
+    calls_alter_their_own, one_answer, open_slots_can_be_read, racks_read_their_own,
+    residues_are_the_channels_own,
+};

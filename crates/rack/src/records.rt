@@ -1,7 +1,7 @@
 //! What the rack notes of each slot: whose it is, and which positions are present.
-ghost use Rattle.std.specs.Prelude.{◌≡◌, ◌<◌, ◌≤◌, replicate, false, Some, None};
+ghost use Rattle.std.specs.Prelude.{◌≡◌, ◌<◌, replicate, false, Some, None};
 ghost use Rattle.plan.specs.Limits.{most_positions};
-ghost use Rattle.rack.specs.Limits.{most_slots};
+ghost use Rattle.rack.specs.States.{closed_record, marked};
 
 use crate::channel::Channel;
 use crate::limits::MOST_SLOTS;
@@ -20,12 +20,9 @@ pub struct SlotRecord {
 pub struct Slots {
     pub(crate) count: usize,
     pub(crate) records: [SlotRecord; MOST_SLOTS],
-    ghost few: { count ≤ most_slots },
 }
 
 impl SlotRecord {
-    ghost use Rattle.rack.specs.States.{closed_record, marked};
-
     /// A closed slot.
     pub(crate) fn closed() -> SlotRecord
         ensures { result ≡ closed_record }

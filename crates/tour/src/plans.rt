@@ -15,8 +15,8 @@ pub(crate) const MESSAGE_CODES: usize = 2;
 /// Codes of a word under it.
 pub(crate) const WORD_CODES: usize = 7;
 
-// Over bits: z, z + 1, z^2 + z + 1 and z^3 + z + 1, nine codes each, lowest power first.
-const MODULI: [u16; 36] = [
+/// Over bits: z, z + 1, z^2 + z + 1 and z^3 + z + 1, nine codes each, lowest power first. The first two carry.
+pub(crate) const MODULI: [u16; 36] = [
     0, 1, 0, 0, 0, 0, 0, 0, 0, 1, 1, 0, 0, 0, 0, 0, 0, 0, 1, 1, 1, 0, 0, 0, 0, 0, 0, 1, 1, 0, 1, 0,
     0, 0, 0, 0,
 ];

@@ -31,15 +31,15 @@ const STRUCK_POSITION: usize = 2;
 
 /// A channel, the slot that it gathers in, and the word that it puts there.
 #[derive(Clone, Copy)]
-struct Gathering<'a> {
-    channel: Channel,
-    slot: usize,
-    word: &'a [u16],
+pub(crate) struct Gathering<'a> {
+    pub(crate) channel: Channel,
+    pub(crate) slot: usize,
+    pub(crate) word: &'a [u16],
 }
 
 impl<'a> Gathering<'a> {
     /// The codes of one position of the word; `received` would cut out all at once.
-    fn residue(&self, plan: &Plan<Bits>, position: usize) -> &'a [u16] {
+    pub(crate) fn residue(&self, plan: &Plan<Bits>, position: usize) -> &'a [u16] {
         let end = plan.start(position.saturating_add(1));
         self.word.get(plan.start(position)..end).unwrap_or(&[])
     }

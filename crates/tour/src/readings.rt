@@ -15,7 +15,7 @@ fn show_reading<R: Print>(
     let arrived = Arrived { plan, residues };
     match arrived.read() {
         Ok(reading) => {
-            let message = Numbers(reading.codes(plan));
+            let message = Numbers(reading.codes());
             let margin = reading.margin;
             let wrong = reading.wrong;
             println!(rt;

@@ -1,6 +1,7 @@
 use Rattle.examples.proofs.Expressions.{expressions}
 use Rattle.examples.proofs.Factors.{factors}
 use Rattle.examples.proofs.Fields.{fields}
+use Rattle.examples.proofs.Grounds.{grounds}
 use Rattle.examples.proofs.Layer.{layer}
 use Rattle.examples.proofs.Ledger.{ledger}
 use Rattle.examples.proofs.Readings.{readings}
@@ -17,4 +18,5 @@ returns c =
       layer = layer;
       expressions = expressions;
       ledger = ledger;
+      grounds = grounds;
     }

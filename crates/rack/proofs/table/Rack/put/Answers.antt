@@ -24,14 +24,14 @@ pub overflow_add-at : goal.overflow_add-at
 overflow_add-at g c =
     let r = state c.args.self.now in
     let fits = placed r c.args.channel c.args.slot c.args.position c.args.residue.now c.args.self.now.whole c.in_ok-may_use.ensures c.in_ok-check_residue.ensures in
-    let few = (g.M.Memory.bounded c.args.self.now.memory).few in
+    let few = (g.met.M.Memory.bounded c.args.self.now.memory).few in
     omega (arith, fits.room, few, ap (λ n. c.args.slot * n) c.word_length.ensures, c.start.ensures)
 
 pub store-requires : goal.store-requires
 store-requires g c =
     let r = state c.args.self.now in
     let fits = placed r c.args.channel c.args.slot c.args.position c.args.residue.now c.args.self.now.whole c.in_ok-may_use.ensures c.in_ok-check_residue.ensures in
-    let few = (g.M.Memory.bounded c.args.self.now.memory).few in
+    let few = (g.met.M.Memory.bounded c.args.self.now.memory).few in
     omega (arith, fits.room, few, ap (λ n. c.args.slot * n) c.word_length.ensures, c.start.ensures)
 
 pub invariant_of-self : goal.invariant_of-self
