@@ -6,7 +6,8 @@ use Rattle.expression.specs.Fields.{arithmetic_of}
 use Rattle.expression.specs.Values.{Expression, Value, value}
 use Rattle.sheet.specs.BadLines.{bad_line, first_without, line_unless}
 use Rattle.sheet.specs.Grammar.{Content}
-use Rattle.sheet.specs.Refusals.{AllValued, FirstBadLine, OnLine, among_carrying, among_spare}
+use Rattle.sheet.specs.Limits.{first_modulus_line}
+use Rattle.sheet.specs.Refusals.{AllValued, FirstBadLine, OnLine, among_carrying, among_spare, first_spare_line}
 
 -- What stands before a place of a list stands there in any longer list that begins alike.
 pub within : {E : Type 0} (bs cs before after : List E) (e d : E) → bs ++ (e ∷ cs) ≡ before ++ (d ∷ after) → length bs < length before
@@ -84,10 +85,7 @@ module _ (content : Content) where
   abbrev field : Arithmetic
   field = arithmetic_of content.field
 
-  abbrev first_spare : ℕ
-  first_spare = 3 + length content.carrying + 1
-
-  before_carrying : {line : ℕ} (found : Found field 3 content.carrying line) {l : ℕ} {e : Expression} → OnLine content l e → l < line
+  before_carrying : {line : ℕ} (found : Found field first_modulus_line content.carrying line) {l : ℕ} {e : Expression} → OnLine content l e → l < line
       → ¬ (value field e ≡ None)
   before_carrying found (among_carrying before after {e} eq) h =
       let (rest, is) = within before after found.before found.after e found.modulus (sym eq ∙ found.split) (omega (arith, found.place)) in
@@ -97,14 +95,14 @@ module _ (content : Content) where
       ap length found.split ∙ length-append found.before (found.modulus ∷ found.after) in
       absurd (omega (arith, found.place, long))
 
-  before_spare : {line : ℕ} → Valued field content.carrying → (found : Found field first_spare content.spare line) {l : ℕ} {e : Expression}
+  before_spare : {line : ℕ} → Valued field content.carrying → (found : Found field (first_spare_line content) content.spare line) {l : ℕ} {e : Expression}
       → OnLine content l e → l < line → ¬ (value field e ≡ None)
   before_spare valued found (among_carrying before after {e} eq) h = valued before after e eq
   before_spare valued found (among_spare before after {e} eq) h =
       let (rest, is) = within before after found.before found.after e found.modulus (sym eq ∙ found.split) (omega (arith, found.place)) in
       found.valued before rest e is
 
-  in_carrying : {line : ℕ} → Found field 3 content.carrying line → FirstBadLine content line
+  in_carrying : {line : ℕ} → Found field first_modulus_line content.carrying line → FirstBadLine content line
   in_carrying found = record {
     modulus = found.modulus;
     there = subst (λ (l : ℕ). OnLine content l found.modulus) (sym found.place) (among_carrying found.before found.after found.split);
@@ -112,7 +110,7 @@ module _ (content : Content) where
     before = λ l e h on. before_carrying found on h;
   }
 
-  in_spare : {line : ℕ} → Valued field content.carrying → Found field first_spare content.spare line → FirstBadLine content line
+  in_spare : {line : ℕ} → Valued field content.carrying → Found field (first_spare_line content) content.spare line → FirstBadLine content line
   in_spare valued found = record {
     modulus = found.modulus;
     there = subst (λ (l : ℕ). OnLine content l found.modulus) (sym found.place) (among_spare found.before found.after found.split);
@@ -120,16 +118,16 @@ module _ (content : Content) where
     before = λ l e h on. before_spare valued found on h;
   }
 
-  later : {line : ℕ} → Valued field content.carrying → Searched field first_spare content.spare None line → FirstBadLine content line
+  later : {line : ℕ} → Valued field content.carrying → Searched field (first_spare_line content) content.spare None line → FirstBadLine content line
   later valued (here found) = in_spare valued found
   later valued (further others is) = cc
 
-  of_search : {line : ℕ} → Searched field 3 content.carrying (first_without field first_spare content.spare None) line → FirstBadLine content line
+  of_search : {line : ℕ} → Searched field first_modulus_line content.carrying (first_without field (first_spare_line content) content.spare None) line → FirstBadLine content line
   of_search (here found) = in_carrying found
-  of_search {line} (further valued is) = later valued (searched field first_spare content.spare None line is)
+  of_search {line} (further valued is) = later valued (searched field (first_spare_line content) content.spare None line is)
 
   pub first_bad : (line : ℕ) → bad_line content ≡ Some line → FirstBadLine content line
-  first_bad line h = of_search (searched field 3 content.carrying (first_without field first_spare content.spare None) line h)
+  first_bad line h = of_search (searched field first_modulus_line content.carrying (first_without field (first_spare_line content) content.spare None) line h)
 
   valued_lines : Valued field content.carrying → Valued field content.spare → {l : ℕ} {e : Expression} → OnLine content l e → ¬ (value field e ≡ None)
   valued_lines carrying spare (among_carrying before after {e} eq) = carrying before after e eq
@@ -137,6 +135,6 @@ module _ (content : Content) where
 
   pub none_bad : bad_line content ≡ None → AllValued content
   none_bad h =
-      let (carrying, rest) = all_valued field 3 content.carrying (first_without field first_spare content.spare None) h in
-      let (spare, _) = all_valued field first_spare content.spare None rest in
+      let (carrying, rest) = all_valued field first_modulus_line content.carrying (first_without field (first_spare_line content) content.spare None) h in
+      let (spare, _) = all_valued field (first_spare_line content) content.spare None rest in
       λ l e on. valued_lines carrying spare on

@@ -1,5 +1,5 @@
 -- The section with the field: one line, since its count is 1.
-use Rattle.std.proofs.Common.{◌≡◌, ℕ, List, [], ◌∷◌, arith}
+use Rattle.std.proofs.Common.{◌≡◌, ℕ, List, [], ◌∷◌, arith, lit≤}
 use Rattle.expression.specs.Texts.{Got, Lost}
 use Rattle.expression.specs.declared.names.FieldName.{FieldName}
 use Rattle.sheet.specs.Grammar.{IsCount, IsFieldLine, IsSection}
@@ -8,7 +8,7 @@ use Rattle.sheet.specs.Sections.{AnyField}
 use Rattle.sheet.specs.Sequences.{Any}
 use Rattle.sheet.proofs.Chains.{Alone, lost_like}
 use Rattle.sheet.proofs.LineKinds.{field_kind}
-use Rattle.sheet.proofs.Rows.{alone_section, count_lost, line_lost, lines_more, lines_none, section_begins, section_got}
+use Rattle.sheet.proofs.Rows.{alone_section, count_lost, line_lost, lines_more, lines_none, section_begins, section_got, some_section}
 
 single : (x : List ℕ) → Any (IsSection 1 1 IsFieldLine) x → AnyField x
 single x ([], h) = absurd (omega (arith, h.counted.low))
@@ -17,6 +17,9 @@ single x (v ∷ w ∷ r, h) = absurd (omega (arith, h.counted.high))
 
 plural : (x : List ℕ) → AnyField x → Any (IsSection 1 1 IsFieldLine) x
 plural x (v, h) = (v ∷ [], h)
+
+pub some_field : (text : List ℕ) × AnyField text
+some_field = let (text, h) = some_section field_kind (lit≤ tt) (lit≤ tt) in (text, single text h)
 
 pub alone_fields : Alone AnyField
 alone_fields _ _ x y a b p q e = alone_section field_kind tt tt x y a b (plural x p) (plural a q) e

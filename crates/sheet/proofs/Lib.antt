@@ -13,12 +13,15 @@ mod Endings
 mod Exits
 mod FieldNames
 mod FieldSections
+mod Lawful
 mod LineKinds
 mod Loops
 mod Machine
 mod Noting
+mod OneAnswer
 mod OneCall
 mod Rows
+mod Vacancies
 mod Walk
 mod Wholes
 mod Tables

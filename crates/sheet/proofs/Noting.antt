@@ -1,6 +1,6 @@
 -- The values of moduli, noted one line after the other.
 use Rattle.std.proofs.Common.{◌≡◌, ℕ, suc, ◌+◌, List, [], ◌∷◌, ◌++◌, length, Some, None, vec_items, Option, sym, refl, ap, ◌∙◌, append_assoc, append-nil, arith}
-use Rattle.std.proofs.lemmas.List.{flat_map_more}
+use Rattle.std.proofs.lemmas.List.{flat_map_more, length_push}
 use Rattle.std.specs.Option.{option_or}
 use Rattle.std.specs.List.{flat_map}
 use Rattle.algebra.specs.Field.{Arithmetic}
@@ -18,12 +18,16 @@ or_none : (a : Option ℕ) → option_or a None ≡ a
 or_none None = refl
 or_none (Some n) = refl
 
+both_none : (a b : Option ℕ) → option_or a b ≡ None → (a ≡ None) × (b ≡ None)
+both_none None b e = (refl, e)
+both_none (Some n) b e = cc
+
 unless_or : (v : Value) (n : ℕ) (a b : Option ℕ) → line_unless v n (option_or a b) ≡ option_or (line_unless v n a) b
 unless_or None n a b = refl
 unless_or (Some codes) n a b = refl
 
 module _ (f : Arithmetic) where
-  abbrev all_codes : List Expression → List ℕ
+  abbrev pub all_codes : List Expression → List ℕ
   all_codes es = flat_map (λ e. codes_in (value f e)) es
 
   pub first_later : (n : ℕ) (es : List Expression) (later : Option ℕ) → first_without f n es later ≡ option_or (first_without f n es None) later
@@ -40,7 +44,12 @@ module _ (f : Arithmetic) where
       ∙ unless_or (value f d) n (first_without f (suc n) es None) (line_unless (value f e) (n + suc (length es)) None)
 
   pub noted_none : (line : ℕ) (m : Moduli) → Noted f line [] m m
-  noted_none line m = record { codes_are = sym (append-nil (vec_items m.codes)); bad_is = sym (or_none m.bad) }
+  noted_none line m = record {
+    codes_are = sym (append-nil (vec_items m.codes));
+    bad_is = sym (or_none m.bad);
+    few = omega arith;
+    wide = omega arith;
+  }
 
   pub noted_more : (line at : ℕ) (es : List Expression) (e : Expression) (v : Value) (a b c : Moduli) → at ≡ line + length es → v ≡ value f e
       → Noted f line es a b → Keeps at v b c → Noted f line (es ++ e ∷ []) a c
@@ -51,6 +60,10 @@ module _ (f : Arithmetic) where
         ∙ (ap (λ w. option_or (option_or a.bad (first_without f line es None)) (line_unless w at None)) is_v
         ∙ (ap (λ m. option_or (option_or a.bad (first_without f line es None)) (line_unless (value f e) m None)) is_at
         ∙ (or_assoc a.bad (first_without f line es None) (line_unless (value f e) (line + length es) None) ∙ ap (option_or a.bad) (sym (first_push line es e))))));
+    few =
+        let longer = length_push es e in
+        omega (arith, k.few, n.few, longer);
+    wide = omega (arith, k.wide, n.wide);
   }
 
   -- Where every expression has a value, the codes are those of all of them.
@@ -64,3 +77,21 @@ module _ (f : Arithmetic) where
       go None h k = cc
       go (Some p) h k =
           ap (codes_after (Some p)) (k h) ∙ ap (λ x. Some x) (sym (append_assoc p (all_codes es) codes))
+
+  -- The carrying and the spare moduli of a sheet, whose first lines are n and m.
+  pub codes_whole : (n m : ℕ) (carrying spare : List Expression) → first_without f n carrying (first_without f m spare None) ≡ None
+      → moduli_codes f (carrying ++ spare) ≡ Some (all_codes carrying ++ all_codes spare)
+  codes_whole n m carrying spare none =
+      let later = first_without f m spare None in
+      let (p, q) = both_none (first_without f n carrying None) later (sym (first_later n carrying later) ∙ none) in
+      let last = ap (moduli_codes f) (sym (append-nil spare)) ∙ codes_all m spare [] [] q refl in
+      codes_all n carrying spare _ p last ∙ ap (λ x. Some (all_codes carrying ++ x)) (append-nil (all_codes spare))
+
+  -- Where one expression has no value, there are none.
+  pub codes_none : (before after : List Expression) (e : Expression) → value f e ≡ None → moduli_codes f (before ++ (e ∷ after)) ≡ None
+  codes_none [] after e none = ap (λ v. codes_after v (moduli_codes f after)) none
+  codes_none (d ∷ before) after e none = ap (codes_after (value f d)) (codes_none before after e none) ∙ none_after (value f d)
+    where
+      none_after : (v : Value) → codes_after v None ≡ None
+      none_after None = refl
+      none_after (Some p) = refl

@@ -15,7 +15,7 @@ use Rattle.sheet.specs.Sections.{AnyCalls, AnyField, AnyModuli}
 use Rattle.sheet.specs.Sequences.{Any, Then}
 use Rattle.sheet.proofs.Between.{part_first, part_join}
 use Rattle.sheet.proofs.Chains.{Alone, dies, got_lost, lost_first, lost_like, told_after}
-use Rattle.sheet.proofs.FieldSections.{alone_fields}
+use Rattle.sheet.proofs.FieldSections.{alone_fields, some_field}
 use Rattle.sheet.proofs.LineKinds.{call_kind, modulus_kind}
 use Rattle.sheet.proofs.Rows.{alone_section, some_section}
 
@@ -96,6 +96,11 @@ some_spare = (some_moduli.0 ++ some_calls.0, (tt, (some_moduli.0, (some_calls.0,
 
 some_carrying : (text : List ℕ) × FromCarrying text
 some_carrying = (some_moduli.0 ++ some_spare.0, (tt, (some_moduli.0, (some_spare.0, some_moduli.1, some_spare.1, refl))))
+
+pub some_sheet : (text : List ℕ) × Any IsSheet text
+some_sheet =
+    let text = some_field.0 ++ some_carrying.0 in
+    (text, from_sections text (tt, (some_field.0, (some_carrying.0, some_field.1, some_carrying.1, refl))))
 
 module _ (L M : List ℕ → Type 0) (one : Alone L) (s : List ℕ) where
   first : ((rest : List ℕ) × M rest) → (i p : ℕ) → Lost L s i p → Lost (Then L M) s i p

@@ -8,10 +8,8 @@ use Rattle.expression.specs.Grammar.{numeral}
 use Rattle.expression.specs.declared.parsed.Parsed.{Parsed}
 use Rattle.expression.specs.declared.parsed.Stop.{Stop}
 use Rattle.expression.specs.declared.parts.Part.{Part}
-use Rattle.sheet.specs.Faults.{Failed}
 use Rattle.sheet.specs.Grammar.{IsCallNumber}
 use Rattle.sheet.specs.Limits.{most_call_digits}
-use Rattle.sheet.specs.declared.lines.LineFault.{LineFault}
 use Rattle.sheet.specs.declared.numbers.Heading.{Heading}
 
 -- From i to j stands a blank and a number, which is x in digits, and which the byte at j does not carry on.
@@ -72,5 +70,6 @@ pub record CodesAt (s : List ℕ) (i most : ℕ) (j : ℕ) (ns : List ℕ) : Typ
   pub few : length ns ≤ most
   pub over : Over most (length ns) s j
 
-abbrev pub CodesTold : List ℕ → ℕ → ℕ → Result (Parsed (Vec ℕ)) LineFault → Type 0
-CodesTold s i most r = MatchResult r (λ row. CodesAt s i most row.end (vec_items row.value)) (Failed (NumbersLost 0 most s i))
+abbrev pub CodesTold : List ℕ → ℕ → ℕ → Result (Parsed (Vec ℕ)) Stop → Type 0
+CodesTold s i most r =
+    MatchResult r (λ row. CodesAt s i most row.end (vec_items row.value)) (λ stop. NumbersLost 0 most s i stop.place)

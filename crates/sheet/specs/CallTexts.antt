@@ -2,16 +2,16 @@
 -- What reading the numbers of a call answers, by the call's name.
 use Rattle.std.specs.Prelude.{ℕ, ◌≤◌, List, [], ◌∷◌, length, MatchResult, Result}
 use Rattle.expression.specs.declared.parsed.Parsed.{Parsed}
+use Rattle.expression.specs.declared.parsed.Stop.{Stop}
 use Rattle.rack.specs.Ledger.{Request, closes, measures, opens, puts, reads, strikes}
 use Rattle.rack.specs.Racks.{given_by}
 use Rattle.rack.specs.declared.call.Call.{Call}
 use Rattle.sheet.specs.CallNames.{least_numbers, most_numbers}
 use Rattle.sheet.specs.CallNumbers.{NumbersAt, NumbersLost, Over}
-use Rattle.sheet.specs.Faults.{Failed}
 use Rattle.sheet.specs.Limits.{most_measure_codes, most_put_codes}
+use Rattle.sheet.specs.Rooms.{HasRoom}
 use Rattle.sheet.specs.declared.call_names.CallName.{CallName}
 use Rattle.sheet.specs.declared.call_names.CallName.TheVariants.{Close, Measure, Open, Put, Read, Strike}
-use Rattle.sheet.specs.declared.lines.LineFault.{LineFault}
 
 -- What a call of this name asks with these numbers.
 pub data Says : CallName → List ℕ → Request → Type 0 where
@@ -29,6 +29,7 @@ pub record TextAt (name : CallName) (s : List ℕ) (i j : ℕ) (request : Reques
   pub says : Says name ns request
   pub shut : Over (most_numbers name) (length ns) s j
 
-abbrev pub TextTold : CallName → List ℕ → ℕ → Result (Parsed Call) LineFault → Type 0
+abbrev pub TextTold : CallName → List ℕ → ℕ → Result (Parsed Call) Stop → Type 0
 TextTold name s i r =
-    MatchResult r (λ call. TextAt name s i call.end (given_by call.value)) (Failed (NumbersLost (least_numbers name) (most_numbers name) s i))
+    MatchResult r (λ call. TextAt name s i call.end (given_by call.value) × HasRoom call.value)
+    (λ stop. NumbersLost (least_numbers name) (most_numbers name) s i stop.place)

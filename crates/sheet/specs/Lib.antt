@@ -4,11 +4,13 @@ pub mod CallNames
 pub mod CallNumbers
 pub mod CallTexts
 pub mod Drafts
-pub mod Faults
 pub mod Grammar
+pub mod Laws
 pub mod Limits
 pub mod Parts
 pub mod Refusals
+pub mod Rooms
 pub mod Sections
+pub mod Sentences
 pub mod Sequences
 pub mod Tables

@@ -15,6 +15,11 @@ most_moduli = 23
 abbrev pub most_calls : ℕ
 most_calls = 99
 
+-- The line of the first carrying modulus, lines being counted from 0: before it stand the count and the name of the field,
+-- and the count of carrying moduli.
+abbrev pub first_modulus_line : ℕ
+first_modulus_line = 3
+
 -- A number of a call is written with at most this many digits.
 abbrev pub most_call_digits : ℕ
 most_call_digits = 4

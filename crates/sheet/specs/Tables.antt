@@ -1,9 +1,11 @@
 -- Inner: no public contract cites this.
 -- Words of a table, and how far a text goes along one of them.
-use Rattle.std.specs.Prelude.{◌==◌, ℕ, List, map, Contains}
+use Rattle.std.specs.Prelude.{◌==◌, ℕ, List, map, Contains, MatchResult, Result}
 use Rattle.std.specs.Borrow.{Bor}
 use Rattle.std.specs.List.{prefix_len, zip}
+use Rattle.expression.specs.Texts.{Lost}
 use Rattle.expression.specs.Tokens.{PartAt}
+use Rattle.expression.specs.declared.parsed.Stop.{Stop}
 use Rattle.sheet.specs.declared.words.Named.{Named}
 
 -- How many bytes two texts have in common from the front on.
@@ -24,3 +26,7 @@ NamedAt Is s i named = PartAt s i named.word × Is named.word.text.now named.val
 
 abbrev pub AnyWord : {T : Type 0} → List (Bor (List ℕ) × T) → List ℕ → Type 0
 AnyWord {T} table x = (v : T) × IsWord table x v
+
+-- At i stands a word of the table; or the first place where none of them goes on.
+abbrev pub WordTold : {T : Type 0} → List (Bor (List ℕ) × T) → List ℕ → ℕ → Result (Named T) Stop → Type 0
+WordTold table s i r = MatchResult r (NamedAt (IsWord table) s i) (λ stop. Lost (AnyWord table) s i stop.place)

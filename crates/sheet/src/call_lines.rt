@@ -8,19 +8,18 @@ ghost use Rattle.sheet.specs.declared.call_names.CallName.TheVariants.{Measure, 
 
 use crate::call_names::{CallName, call_name};
 use crate::limits::{MOST_MEASURE_CODES, MOST_PUT_CODES};
-use crate::lines::LineFault;
 use crate::numbers::{Heading, channel_and_slot, code_row, number};
+use crate::rooms::Row;
 use crate::signs::expected_sign;
-use expression::{Cursor, Parsed, Sign};
+use expression::{Cursor, Parsed, Sign, Stop};
 use rack::Call;
-use std::alloc::Global;
 
 /// The position and the residue of a put, after channel and slot.
-fn put(heap: Global, from: Cursor, heading: Heading) -> Result<Parsed<Call>, LineFault>
+fn put(row: Row, from: Cursor, heading: Heading) -> Result<Parsed<Call>, Stop>
     ensures { Here from.entry (λ s j. (i : ℕ) → HeadingAt s i heading j → TextTold Put s i result) }
 {
     let position = number(from)?;
-    let residue = code_row(heap, from.at(position.end), MOST_PUT_CODES)?;
+    let residue = code_row(row, from.at(position.end), MOST_PUT_CODES)?;
     Ok(Parsed {
         value: Call::Put {
             channel: heading.channel,
@@ -33,7 +32,7 @@ fn put(heap: Global, from: Cursor, heading: Heading) -> Result<Parsed<Call>, Lin
 }
 
 /// The position of a strike, after channel and slot.
-fn strike(from: Cursor, heading: Heading) -> Result<Parsed<Call>, LineFault>
+fn strike(from: Cursor, heading: Heading) -> Result<Parsed<Call>, Stop>
     ensures { Here from.entry (λ s j. (i : ℕ) → HeadingAt s i heading j → TextTold Strike s i result) }
 {
     let position = number(from)?;
@@ -48,10 +47,10 @@ fn strike(from: Cursor, heading: Heading) -> Result<Parsed<Call>, LineFault>
 }
 
 /// The message of a measure, after channel and slot.
-fn measure(heap: Global, from: Cursor, heading: Heading) -> Result<Parsed<Call>, LineFault>
+fn measure(row: Row, from: Cursor, heading: Heading) -> Result<Parsed<Call>, Stop>
     ensures { Here from.entry (λ s j. (i : ℕ) → HeadingAt s i heading j → TextTold Measure s i result) }
 {
-    let message = code_row(heap, from, MOST_MEASURE_CODES)?;
+    let message = code_row(row, from, MOST_MEASURE_CODES)?;
     Ok(Parsed {
         value: Call::Measure {
             channel: heading.channel,
@@ -62,8 +61,8 @@ fn measure(heap: Global, from: Cursor, heading: Heading) -> Result<Parsed<Call>,
     })
 }
 
-/// The numbers of the call of this name. A read's buffer is not written on a sheet, and comes out with no codes.
-fn call_text(heap: Global, name: CallName, from: Cursor) -> Result<Parsed<Call>, LineFault>
+/// The numbers of the call of this name. A read's buffer is not written on a sheet: it comes out with no codes, and with the row's room.
+fn call_text(row: Row, name: CallName, from: Cursor) -> Result<Parsed<Call>, Stop>
     ensures { Here from.entry (λ s i. TextTold name s i result) }
 {
     let Parsed {
@@ -73,25 +72,25 @@ fn call_text(heap: Global, name: CallName, from: Cursor) -> Result<Parsed<Call>,
     let Heading { channel, slot } = heading;
     let call = match name {
         CallName::Open => Call::Open { channel, slot },
-        CallName::Put => return put(heap, from.at(end), heading),
+        CallName::Put => return put(row, from.at(end), heading),
         CallName::Strike => return strike(from.at(end), heading),
         CallName::Read => Call::Read {
             channel,
             slot,
-            buffer: Vec::new(heap),
+            buffer: row.codes,
         },
-        CallName::Measure => return measure(heap, from.at(end), heading),
+        CallName::Measure => return measure(row, from.at(end), heading),
         CallName::Close => Call::Close { channel, slot },
     };
     Ok(Parsed { value: call, end })
 }
 
 /// The call on the line that begins here.
-pub(crate) fn call_line(heap: Global, from: Cursor) -> Result<Parsed<Call>, LineFault>
+pub(crate) fn call_line(row: Row, from: Cursor) -> Result<Parsed<Call>, Stop>
     ensures { Here from.entry (λ s i. CallTold s i result) }
 {
     let name = call_name(from)?;
-    let call = call_text(heap, name.value, from.at(name.word.end()))?;
+    let call = call_text(row, name.value, from.at(name.word.end()))?;
     let sign = expected_sign(from.at(call.end), Sign::LineEnd)?;
     Ok(Parsed {
         value: call.value,

@@ -1,10 +1,8 @@
 //! Counts, each on a line of its own.
-ghost use Rattle.std.specs.Prelude.{◌≡◌, ◌≤◌, length, slice_index, Decides, MatchResult};
+ghost use Rattle.std.specs.Prelude.{◌≡◌, ◌≤◌, length, slice_index, Decides};
 ghost use Rattle.expression.specs.Cursors.{Here};
 ghost use Rattle.expression.specs.Bytes.{first_digit};
-ghost use Rattle.expression.specs.Texts.{Got, Lost};
-ghost use Rattle.sheet.specs.Grammar.{IsCount};
-ghost use Rattle.sheet.specs.Parts.{AnyCount};
+ghost use Rattle.sheet.specs.Parts.{CountTold};
 
 use crate::limits::{Counts, MOST_COUNT_DIGITS};
 use crate::signs::expected_sign;
@@ -20,7 +18,7 @@ fn zero_leads(digits: &[u8]) -> bool
 /// The count on the line that begins here. Since `least` is 0 or 1 and `most` has at most two digits, a first digit begins some count
 /// exactly if it is one itself.
 pub(crate) fn count_line(from: Cursor, counts: Counts) -> Result<Parsed<usize>, Stop>
-    ensures { Here from.entry (λ s i. MatchResult result (λ line. Got (λ x. IsCount counts.least counts.most x line.value) s i line.end) (λ stop. Lost (AnyCount counts.least counts.most) s i stop.place)) }
+    ensures { Here from.entry (λ s i. CountTold counts.least counts.most s i result) }
 {
     let number = from.part(digits_end::<MOST_COUNT_DIGITS>(from));
     let [first, ..] = number.text else {

@@ -1,11 +1,6 @@
 //! The name of the field, on a line of its own.
-ghost use Rattle.std.specs.Prelude.{◌≡◌, MatchResult};
 ghost use Rattle.expression.specs.Cursors.{Here};
-ghost use Rattle.expression.specs.Fields.{field_word};
-ghost use Rattle.expression.specs.Texts.{Got, Lost};
-ghost use Rattle.sheet.specs.Grammar.{IsFieldLine};
-ghost use Rattle.sheet.specs.Parts.{AnyFieldLine};
-ghost use Rattle.sheet.specs.Tables.{NamedAt};
+ghost use Rattle.sheet.specs.Parts.{FieldLineTold, FieldNameTold};
 
 use crate::signs::expected_sign;
 use crate::words::{Named, one_of};
@@ -20,14 +15,14 @@ const FIELD_NAMES: [(&[u8], FieldName); 3] = [
 
 /// The field that is named here. No name begins another, so it stops where no line goes on.
 fn field_name<'a>(from: Cursor<'a>) -> Result<Named<'a, FieldName>, Stop>
-    ensures { Here from.entry (λ s i. MatchResult result (NamedAt (λ x name. x ≡ field_word name) s i) (λ stop. Lost AnyFieldLine s i stop.place)) }
+    ensures { Here from.entry (λ s i. FieldNameTold s i result) }
 {
     one_of(from, &FIELD_NAMES)
 }
 
 /// The field that the line here names.
 pub(crate) fn field_line(from: Cursor) -> Result<Parsed<FieldName>, Stop>
-    ensures { Here from.entry (λ s i. MatchResult result (λ line. Got (λ x. IsFieldLine x line.value) s i line.end) (λ stop. Lost AnyFieldLine s i stop.place)) }
+    ensures { Here from.entry (λ s i. FieldLineTold s i result) }
 {
     let name = field_name(from)?;
     let sign = expected_sign(from.at(name.word.end()), Sign::LineEnd)?;

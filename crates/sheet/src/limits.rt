@@ -1,6 +1,8 @@
 //! The limits of a sheet.
 ghost use Rattle.std.specs.Prelude.{◌≤◌};
 
+use plan::MODULUS_CODES;
+
 /// A longer sheet is refused, whatever it holds.
 pub const LONGEST_SHEET: usize = 4096;
 
@@ -30,6 +32,9 @@ const LEAST_MODULI: usize = 1;
 
 const MOST_MODULI: usize = 23;
 
+/// All moduli of a sheet, carrying and spare, have at most this many codes.
+pub(crate) const MOST_MODULI_CODES: usize = 2 * MOST_MODULI * MODULUS_CODES;
+
 /// The counts of calls.
 pub(crate) const CALLS: Counts = Counts {
     least: LEAST_CALLS,
@@ -38,10 +43,14 @@ pub(crate) const CALLS: Counts = Counts {
 
 const LEAST_CALLS: usize = 0;
 
-const MOST_CALLS: usize = 99;
+/// A sheet has at most this many calls.
+pub const MOST_CALLS: usize = 99;
 
 /// The line of the first carrying modulus: before it stand the count and the name of the field, and the count of carrying moduli.
 pub(crate) const FIRST_MODULUS_LINE: usize = 3;
+
+/// The first spare modulus stands on this line at the latest: between it and the first carrying one stand those and a count.
+pub(crate) const LATEST_SECTION_LINE: usize = FIRST_MODULUS_LINE + MOST_MODULI + 1;
 
 /// A number of a call is written with at most this many digits.
 pub(crate) const MOST_CALL_DIGITS: usize = 4;
@@ -51,3 +60,6 @@ pub(crate) const MOST_PUT_CODES: usize = 8;
 
 /// A measure carries at most this many codes.
 pub(crate) const MOST_MEASURE_CODES: usize = 64;
+
+/// Any call carries at most this many codes: a measure more than a put, and the others none.
+pub(crate) const MOST_CALL_CODES: usize = MOST_MEASURE_CODES;

@@ -1,12 +1,13 @@
 //! The numbers of a call: each after exactly one blank, with one to four digits.
+ghost use Rattle.std.specs.Prelude.{◌≤◌};
 ghost use Rattle.expression.specs.Cursors.{Here};
 ghost use Rattle.sheet.specs.CallNumbers.{CodesTold, DigitsTold, HeadingTold, NumberTold};
+ghost use Rattle.sheet.specs.Rooms.{most_call_codes};
 
 use crate::limits::MOST_CALL_DIGITS;
-use crate::lines::LineFault;
+use crate::rooms::Row;
 use crate::signs::expected_sign;
 use expression::{Cursor, Parsed, Part, Sign, Stop, digits_end, numeral_of, sign_at};
-use std::alloc::Global;
 
 /// The two numbers that every call begins with.
 #[derive(Clone, Copy)]
@@ -58,19 +59,16 @@ pub(crate) fn channel_and_slot(from: Cursor) -> Result<Parsed<Heading>, Stop>
 
 /// The numbers from here on, as many as there are and at most `most`. Where no blank stands the line may end, so that is no fault here;
 /// after a blank a number has to come.
-pub(crate) fn code_row(
-    heap: Global,
-    from: Cursor,
-    most: usize,
-) -> Result<Parsed<Vec<u16>>, LineFault>
+pub(crate) fn code_row(row: Row, from: Cursor, most: usize) -> Result<Parsed<Vec<u16>>, Stop>
+    requires { most ≤ most_call_codes }
     ensures { Here from.entry (λ s i. CodesTold s i most result) }
 {
-    let mut codes = Vec::new(heap);
+    let Row { mut codes } = row;
     let mut end = from.place;
     // How many come shows only as they are read, so there is nothing to iterate over.
     while codes.len() < most && sign_at(from.at(end), Sign::Blank).is_some() {
         let code = number(from.at(end))?;
-        codes.push(code.value)?;
+        codes.push_reserved(code.value);
         end = code.end;
     }
     Ok(Parsed { value: codes, end })

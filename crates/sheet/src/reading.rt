@@ -4,22 +4,22 @@ ghost use Rattle.sheet.specs.Refusals.{SheetTold};
 
 use crate::faults::SheetFault;
 use crate::limits::{FIRST_MODULUS_LINE, LONGEST_SHEET};
-use crate::lines::LineFault;
 use crate::moduli::Moduli;
+use crate::rooms::Room;
 use crate::sections::{calls_section, field_section, moduli_section};
 use crate::sheets::Sheet;
-use expression::{Cursor, FieldName, Parsed};
+use expression::{Cursor, FieldName, Parsed, Stop};
 use rack::Call;
-use std::alloc::Global;
 
-/// The sheet that the bytes write; or the first ground on which they write none, with its place.
-pub fn read_sheet(heap: Global, bytes: &[u8]) -> Result<Sheet, SheetFault>
+/// The sheet that the bytes write; or the first ground on which they write none, with its place. The room is enough for any sheet, so
+/// memory is never wanting.
+pub fn read_sheet(room: Room, bytes: &[u8]) -> Result<Sheet, SheetFault>
     ensures { SheetTold bytes.now result }
 {
     if bytes.len() > LONGEST_SHEET {
         return Err(SheetFault::TooLong);
     }
-    let Parsed { value: draft, end } = read_sections(heap, bytes)?;
+    let Parsed { value: draft, end } = read_sections(room, bytes)?;
     if end != bytes.len() {
         return Err(SheetFault::NotASheet(end));
     }
@@ -50,18 +50,20 @@ struct Draft {
 }
 
 // The four sections from the start of the sheet on.
-fn read_sections(heap: Global, bytes: &[u8]) -> Result<Parsed<Draft>, LineFault>
+fn read_sections(room: Room, bytes: &[u8]) -> Result<Parsed<Draft>, Stop>
     ensures { DraftTold bytes.now result }
 {
+    let Room {
+        moduli: codes,
+        calls,
+        rows,
+    } = room;
     let start = Cursor {
         sheet: bytes,
         place: 0,
     };
     let field = field_section(start)?;
-    let mut moduli = Moduli {
-        codes: Vec::new(heap),
-        bad: None,
-    };
+    let mut moduli = Moduli { codes, bad: None };
     let carrying = moduli_section(
         start.at(field.end),
         field.value,
@@ -76,7 +78,7 @@ fn read_sections(heap: Global, bytes: &[u8]) -> Result<Parsed<Draft>, LineFault>
         first_spare,
         &mut moduli,
     )?;
-    let calls = calls_section(heap, start.at(spare.end))?;
+    let calls = calls_section(calls, rows, start.at(spare.end))?;
     Ok(Parsed {
         value: Draft {
             field: field.value,

@@ -1,24 +1,25 @@
 //! The sections of a sheet: each is a count on a line of its own, and that many lines.
-ghost use Rattle.std.specs.Prelude.{◌≤◌, [], ◌∷◌, MatchResult};
+ghost use Rattle.std.specs.Prelude.{◌+◌, ◌*◌, ◌≤◌, vec_capacity, vec_len};
 ghost use Rattle.expression.specs.Cursors.{Here};
 ghost use Rattle.expression.specs.Fields.{arithmetic_of};
-ghost use Rattle.expression.specs.Texts.{Got, Lost};
-ghost use Rattle.sheet.specs.Grammar.{IsFieldLine, IsSection};
-ghost use Rattle.sheet.specs.Sections.{AnyField, CallsTold, ModuliTold};
+ghost use Rattle.plan.specs.Limits.{modulus_codes};
+ghost use Rattle.sheet.specs.Limits.{most_calls, most_moduli};
+ghost use Rattle.sheet.specs.Rooms.{Vacant};
+ghost use Rattle.sheet.specs.Sections.{CallsTold, FieldTold, ModuliTold};
+ghost use Rattle.sheet.specs.declared.limits.TheConstants.{LATEST_SECTION_LINE};
 
 use crate::call_lines::call_line;
 use crate::counts::count_line;
 use crate::field_lines::field_line;
 use crate::limits::{CALLS, FIELDS, MODULI};
-use crate::lines::LineFault;
 use crate::moduli::Moduli;
+use crate::rooms::Row;
 use expression::{Cursor, FieldName, Parsed, Stop, modulus_line_at};
 use rack::Call;
-use std::alloc::Global;
 
 /// The field that the section here names.
 pub(crate) fn field_section(from: Cursor) -> Result<Parsed<FieldName>, Stop>
-    ensures { Here from.entry (λ s i. MatchResult result (λ field. Got (λ x. IsSection 1 1 IsFieldLine x (field.value ∷ [])) s i field.end) (λ stop. Lost AnyField s i stop.place)) }
+    ensures { Here from.entry (λ s i. FieldTold s i result) }
 {
     let count = count_line(from, FIELDS)?;
     field_line(from.at(count.end))
@@ -33,8 +34,9 @@ pub(crate) fn moduli_section(
     field: FieldName,
     first: usize,
     moduli: &mut Moduli,
-) -> Result<Parsed<usize>, LineFault>
-    requires { first ≤ 100 }
+) -> Result<Parsed<usize>, Stop>
+    requires line { first ≤ LATEST_SECTION_LINE }
+    requires room { vec_len moduli.old.codes + most_moduli * modulus_codes ≤ vec_capacity moduli.old.codes }
     ensures { Here from.entry (λ s i. ModuliTold (arithmetic_of field) s i first moduli.old moduli.new result) }
 {
     let count = count_line(from, MODULI)?;
@@ -42,7 +44,7 @@ pub(crate) fn moduli_section(
     // By number: a line is named by how many stand before it.
     for i in 0..count.value {
         let modulus = modulus_line_at(from.at(next), field)?;
-        moduli.keep(first + i, modulus.value)?;
+        moduli.keep(first + i, modulus.value);
         next = modulus.end;
     }
     Ok(Parsed {
@@ -51,16 +53,21 @@ pub(crate) fn moduli_section(
     })
 }
 
-/// The calls of the section here.
-pub(crate) fn calls_section(heap: Global, from: Cursor) -> Result<Parsed<Vec<Call>>, LineFault>
+/// The calls of the section here, each with a row of its own.
+pub(crate) fn calls_section(
+    mut calls: Vec<Call>,
+    mut rows: Vec<Row>,
+    from: Cursor,
+) -> Result<Parsed<Vec<Call>>, Stop>
+    requires room { Vacant most_calls calls }
+    requires rows { most_calls ≤ vec_len rows }
     ensures { Here from.entry (λ s i. CallsTold s i result) }
 {
     let count = count_line(from, CALLS)?;
     let mut next = count.end;
-    let mut calls = Vec::new(heap);
     for _ in 0..count.value {
-        let call = call_line(heap, from.at(next))?;
-        calls.push(call.value)?;
+        let call = call_line(rows.take_last(), from.at(next))?;
+        calls.push_reserved(call.value);
         next = call.end;
     }
     Ok(Parsed {

@@ -1,8 +1,7 @@
 //! Words from a table, of which one has to stand at a place.
-ghost use Rattle.std.specs.Prelude.{◌≡◌, ◌<◌, length, MatchResult};
+ghost use Rattle.std.specs.Prelude.{◌≡◌, ◌<◌, length};
 ghost use Rattle.expression.specs.Cursors.{Here};
-ghost use Rattle.expression.specs.Texts.{Lost};
-ghost use Rattle.sheet.specs.Tables.{AnyWord, IsWord, NamedAt, common};
+ghost use Rattle.sheet.specs.Tables.{WordTold, common};
 
 use expression::{Cursor, Part, Stop};
 
@@ -29,7 +28,7 @@ pub(crate) fn one_of<'a, T: Copy>(
     table: &[(&[u8], T)],
 ) -> Result<Named<'a, T>, Stop>
     requires { 0 < length table.now }
-    ensures { Here from.entry (λ s i. MatchResult result (NamedAt (IsWord table.now) s i) (λ stop. Lost (AnyWord table.now) s i stop.place)) }
+    ensures { Here from.entry (λ s i. WordTold table.now s i result) }
 {
     let mut furthest: usize = 0;
     for (letters, value) in table {

@@ -8,7 +8,7 @@ use anyhow::anyhow;
 use fault::Fault;
 use numbers::Numbers;
 use rack::Call;
-use sheet::{Sheet, read_sheet};
+use sheet::{Room, Sheet, read_sheet};
 use std::fmt;
 
 /// A digit of base sixteen. By hand, since `to_digit` takes large letters too.
@@ -100,7 +100,8 @@ fn run(rt: &HostRuntime) -> anyhow::Result<()> {
     for line in rt.lines(rt.alloc()) {
         let line = line?;
         let bytes = bytes_of(rt, line.as_str())?;
-        match read_sheet(rt.alloc(), bytes.as_slice()) {
+        let room = Room::new(rt.alloc())?;
+        match read_sheet(room, bytes.as_slice()) {
             Ok(sheet) => println!(rt; "ok {}", Content(&sheet))?,
             Err(fault) => println!(rt; "{}", fault.ground())?,
         }

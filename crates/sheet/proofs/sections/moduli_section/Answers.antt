@@ -25,7 +25,7 @@ loop-i-preserved c =
     let r = rw (c.at.ensures.sheet, c.at.ensures.place) at c.in_ok-modulus.ensures in (
       r.line.within,
       line_read modulus_kind _ _ _ _ _ c.loop-i-test.true c.loop-i.invariant.1 r.expression _ r.line,
-      read_more _ _ _ _ _ _ _ _ _ _ c.keep.new.self c.loop-i.invariant.2 r c.in_ok-keep.ensures,
+      read_more _ _ _ _ _ _ _ _ _ _ c.keep.new.self c.loop-i.invariant.2 r c.keep.ensures,
     )
 
 pub returns : goal.returns
