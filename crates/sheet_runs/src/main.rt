@@ -4,8 +4,8 @@
 
 use anyhow::Context;
 use std::collections::BTreeSet;
-use std::fs;
-use transcript::transcript_of;
+use std::{fs, str};
+use transcript::{Room, TextRoom, transcript_of};
 
 // What the names of a sheet and of its lines end with.
 const SHEET: &str = ".sheet";
@@ -38,13 +38,14 @@ fn ground_on(line: &str) -> Option<u8> {
 fn try_sheet(rt: &HostRuntime, name: &str, grounds: &mut BTreeSet<u8>) -> anyhow::Result<()> {
     let sheet = fs::read(rt, format!(in rt.alloc(); "{name}{SHEET}")?)?;
     let expected = fs::read_to_string(rt, format!(in rt.alloc(); "{name}{LINES}")?)?;
-    let told = transcript_of(rt.alloc(), &sheet)?.to_string(rt.alloc())?;
+    let text = transcript_of(Room::new(rt.alloc())?, &sheet).text(TextRoom::new(rt.alloc())?);
+    let told = str::from_utf8(&text)?;
     for line in told.lines() {
         if let Some(number) = ground_on(line) {
             grounds.insert(number)?;
         }
     }
-    if told == expected {
+    if told == expected.as_str() {
         println!(rt; "{name}: as expected")?;
     } else {
         println!(rt; "{name}: expected\n{expected}but came\n{told}")?;

@@ -1,5 +1,5 @@
 -- What comes of the bytes of a sheet: a refusal, or its calls as a list that was run, which keeps the promise about arrangements.
-use Rattle.std.specs.Prelude.{◌≡◌, ℕ, ◌*◌, ◌≤◌, true, List, ◌++◌, map, length, replicate, Some, Ok, Err, vec_items, Result}
+use Rattle.std.specs.Prelude.{◌≡◌, ℕ, ◌*◌, true, List, map, length, replicate, Some, Ok, Err, vec_items, Result}
 use Rattle.algebra.specs.Field.{Arithmetic}
 use Rattle.batch.specs.Lists.{requests}
 use Rattle.batch.specs.Promise.{Kept}
@@ -10,11 +10,10 @@ use Rattle.plan.specs.Refusals.{Accepted, Refused}
 use Rattle.plan.specs.Schemes.{Scheme, handed_in, message_length, word_length}
 use Rattle.rack.specs.Ledger.{Request, closes, measures, opens, puts, reads, strikes}
 use Rattle.rack.specs.States.{Fits, State}
-use Rattle.sheet.specs.Grammar.{Content, IsSheet}
-use Rattle.sheet.specs.Limits.{longest_sheet}
-use Rattle.sheet.specs.Refusals.{SheetTold, moduli_codes}
-use Rattle.sheet.specs.declared.faults.SheetFault.TheVariants.{NoMemory}
+use Rattle.sheet.specs.Grammar.{Content}
+use Rattle.sheet.specs.Refusals.{IsLawful, SheetTold, codes_of}
 use Rattle.spread.specs.Place.{divides, spread_row}
+use Rattle.transcript.specs.Endings.{entry_of}
 use Rattle.transcript.specs.declared.running.Unfit.{Unfit}
 use Rattle.transcript.specs.declared.transcripts.Transcript.{Transcript}
 use Rattle.transcript.specs.declared.transcripts.Transcript.TheVariants.{NoPlan, NoSheet, Ran}
@@ -33,6 +32,10 @@ buffered codes (measures channel slot message) = measures channel slot message
 buffered codes (closes channel slot) = closes channel slot
 
 module _ (s : Scheme) where
+  -- The cells of all slots, each holding 0.
+  abbrev pub zero_cells : List ℕ
+  zero_cells = replicate (slots * word_length s) 0
+
   -- A list of calls, run on a rack straight from its making, of four slots over a spreading layer of depth N over these cells.
   pub record Layered (below : List ℕ) (top : ℕ) (before done : List Entry) : Type 0 where
     pub rack : State
@@ -50,7 +53,7 @@ module _ (s : Scheme) where
   pub record RanOn (calls : List Request) (done : List Entry) : Type 0 where
     pub before : List Entry
     pub asked : requests before ≡ map (buffered (message_length s)) calls
-    pub ran : Layered (replicate (slots * word_length s) 0) max_top before done
+    pub ran : Layered zero_cells max_top before done
 
   -- The depth divides the number of cells, and a rack of four slots fits over the layer.
   pub record LayerFits (below : List ℕ) (top : ℕ) : Type 0 where
@@ -66,24 +69,20 @@ module _ (s : Scheme) where
 abbrev pub PlanTold : Arithmetic → ℕ → List ℕ → List Request → Transcript → Type 0
 PlanTold f k codes calls (NoSheet fault) = ⊥
 PlanTold f k codes calls (NoPlan fault) = Refused f k codes fault
-PlanTold f k codes calls (Ran entries) = Accepted f k codes × RanOn (handed_in f k codes) calls (vec_items entries)
+PlanTold f k codes calls (Ran ran) =
+    Accepted f k codes × RanOn (handed_in f k codes) calls (map entry_of (vec_items ran.ended))
 
--- The bytes are a sheet of this content, in which every modulus has a value; `moduli` are the codes of all, one after the other.
-pub record Says (bytes : List ℕ) (content : Content) (moduli : List ℕ) : Type 0 where
-  pub short : length bytes ≤ longest_sheet
-  pub written : IsSheet bytes content
-  pub valued : moduli_codes (arithmetic_of content.field) (content.carrying ++ content.spare) ≡ Some moduli
-
--- The bytes are a sheet, and this comes of its plan and its calls.
+-- The bytes are a lawful sheet, and this comes of its plan and its calls; `moduli` are the codes of all, one after the other.
 pub record Obeys (bytes : List ℕ) (t : Transcript) : Type 0 where
   pub content : Content
   pub moduli : List ℕ
-  pub says : Says bytes content moduli
+  pub lawful : IsLawful bytes content
+  pub valued : codes_of content ≡ Some moduli
   pub told : PlanTold (arithmetic_of content.field) (length content.carrying) moduli content.calls t
 
--- What comes of bytes: they are refused as no sheet, on the first of the grounds 1 to 3; or they are a sheet, and what comes of its plan and its
--- calls is told.
+-- What comes of bytes: they are refused as no sheet, by the first of the grounds 1 to 3; or they are a lawful sheet, and what comes of its plan
+-- and its calls is told.
 abbrev pub TranscriptTold : List ℕ → Transcript → Type 0
-TranscriptTold bytes (NoSheet fault) = SheetTold bytes (Err fault) × ¬ (fault ≡ NoMemory)
+TranscriptTold bytes (NoSheet fault) = SheetTold bytes (Err fault)
 TranscriptTold bytes (NoPlan fault) = Obeys bytes (NoPlan fault)
-TranscriptTold bytes (Ran entries) = Obeys bytes (Ran entries)
+TranscriptTold bytes (Ran ran) = Obeys bytes (Ran ran)

@@ -1,43 +1,53 @@
 //! From the bytes of a sheet to its transcript.
-ghost use Rattle.std.specs.Prelude.{◌≤◌, map, length, vec_items, MatchResult};
+ghost use Rattle.std.specs.Prelude.{All, map, vec_items};
 ghost use Rattle.expression.specs.Fields.{arithmetic_of};
-ghost use Rattle.plan.specs.Refusals.{Accepted};
 ghost use Rattle.rack.specs.Racks.{given_by};
-ghost use Rattle.sheet.specs.Limits.{longest_sheet};
+ghost use Rattle.sheet.specs.Rooms.{HasRoom};
 ghost use Rattle.transcript.specs.Runs.{PlanTold, TranscriptTold};
 
-use crate::running::run_calls;
+use crate::rooms::Room;
+use crate::running::{Work, run_calls};
 use crate::transcripts::Transcript;
 use expression::FieldName;
 use field::{Bits, Bytes, Clock};
-use sheet::{Sheet, SheetFault, read_sheet};
-use std::alloc::{AllocError, Global};
+use sheet::{Sheet, read_sheet};
 
-/// Reads the sheet, and runs its calls in their order on a rack straight from its making. Memory is never wanting for a sheet that is
-/// too long.
-pub fn transcript_of(heap: Global, bytes: &[u8]) -> Result<Transcript, AllocError>
-    ensures { MatchResult result (TranscriptTold bytes.now) (λ _. length bytes.now ≤ longest_sheet) }
+/// Reads the sheet, and runs its calls in their order on a rack straight from its making.
+pub fn transcript_of(room: Room, bytes: &[u8]) -> Transcript
+    ensures { TranscriptTold bytes.now result }
 {
-    match read_sheet(heap, bytes) {
-        Ok(sheet) => run_sheet(heap, sheet),
-        Err(SheetFault::NoMemory) => Err(AllocError),
-        Err(fault) => Ok(Transcript::NoSheet(fault)),
+    let Room {
+        sheet,
+        entries,
+        ended,
+    } = room;
+    match read_sheet(sheet, bytes) {
+        Ok(sheet) => {
+            let Sheet {
+                field,
+                carriers,
+                moduli,
+                calls,
+            } = sheet;
+            let work = Work {
+                calls,
+                entries,
+                ended,
+            };
+            run_over(field, carriers, &moduli, work)
+        }
+        Err(fault) => Transcript::NoSheet(fault),
     }
 }
 
-// Runs the calls over the field that the sheet names. Memory is wanting only if k and the moduli make a plan.
-fn run_sheet(heap: Global, sheet: Sheet) -> Result<Transcript, AllocError>
-    ensures { MatchResult result (PlanTold (arithmetic_of sheet.field) sheet.carriers (vec_items sheet.moduli) (map given_by (vec_items sheet.calls))) (λ _. Accepted (arithmetic_of sheet.field) sheet.carriers (vec_items sheet.moduli)) }
+// Runs the calls over the field of this name.
+fn run_over(field: FieldName, carriers: usize, moduli: &[u16], work: Work) -> Transcript
+    requires { All HasRoom (vec_items work.calls) }
+    ensures { PlanTold (arithmetic_of field) carriers moduli.now (map given_by (vec_items work.calls)) result }
 {
-    let Sheet {
-        field,
-        carriers,
-        moduli,
-        calls,
-    } = sheet;
     match field {
-        FieldName::Bits => run_calls::<Bits>(heap, carriers, &moduli, calls),
-        FieldName::Bytes => run_calls::<Bytes>(heap, carriers, &moduli, calls),
-        FieldName::Clock => run_calls::<Clock>(heap, carriers, &moduli, calls),
+        FieldName::Bits => run_calls::<Bits>(carriers, moduli, work),
+        FieldName::Bytes => run_calls::<Bytes>(carriers, moduli, work),
+        FieldName::Clock => run_calls::<Clock>(carriers, moduli, work),
     }
 }
