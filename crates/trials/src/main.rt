@@ -179,31 +179,51 @@ fn judge<F: Field>(
 ) -> Outcome {
     let margin = arrived.measure(sent);
     match answer {
-        Ok(reading) if margin >= 0 => {
-            if reading.codes() == sent && reading.margin == margin {
-                Outcome::Read
-            } else {
+        Ok(reading) => judge_reading(arrived, sent, margin, reading),
+        Err(_) => {
+            if margin >= 0 {
                 Outcome::Missed
-            }
-        }
-        Ok(reading) => {
-            let own = arrived.measure(reading.codes());
-            if reading.margin >= 0 && own == reading.margin {
-                Outcome::Other
             } else {
-                Outcome::FalseOther
+                Outcome::Refused
             }
         }
-        Err(_) if margin >= 0 => Outcome::Missed,
-        Err(_) => Outcome::Refused,
+    }
+}
+
+/// How a reading compares with the message that was sent, whose margin is told.
+fn judge_reading<F: Field>(
+    arrived: &Arrived<F>,
+    sent: &[u16],
+    margin: i32,
+    reading: &Reading,
+) -> Outcome {
+    if margin >= 0 {
+        return if reading.codes() == sent && reading.margin == margin {
+            Outcome::Read
+        } else {
+            Outcome::Missed
+        };
+    }
+    let own = arrived.measure(reading.codes());
+    if reading.margin >= 0 && own == reading.margin {
+        Outcome::Other
+    } else {
+        Outcome::FalseOther
     }
 }
 
 /// Whether a search finds just what was read.
 fn is_found(found: &[Vec<u16>], answer: &Result<Reading, ReaderFault>) -> bool {
-    match (found, answer) {
-        ([], Err(_)) => true,
-        ([only], Ok(reading)) => only.as_slice() == reading.codes(),
+    match answer {
+        Ok(reading) => is_only(found, reading.codes()),
+        Err(_) => found.is_empty(),
+    }
+}
+
+/// Whether these codes were found, and nothing else.
+fn is_only(found: &[Vec<u16>], codes: &[u16]) -> bool {
+    match found {
+        [only] => only.as_slice() == codes,
         _ => false,
     }
 }
