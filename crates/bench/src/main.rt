@@ -1,4 +1,4 @@
-//! Two channels on a rack that is a laboratory's own twice over: its codes are nibbles, and it keeps each cell in two forms.
+//! Two channels on a rack with a field and a memory of the laboratory's own: nibbles, and cells kept in two forms.
 #![tactic(auto)]
 
 use anyhow::anyhow;
