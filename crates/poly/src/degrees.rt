@@ -11,7 +11,7 @@ fn leading(p: &[u16]) -> Option<usize>
 }
 
 /// How many codes there are up to the last one other than 0: one more than the degree, and 0 for zero.
-pub(crate) fn significant(p: &[u16]) -> usize
+pub fn significant(p: &[u16]) -> usize
     ensures within { result ≤ length p.now }
     ensures is { Significant (coefficients p.now) result }
 {

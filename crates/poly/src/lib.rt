@@ -11,7 +11,7 @@ mod remainders;
 mod steps;
 mod sums;
 
-pub use degrees::degree;
+pub use degrees::{degree, significant};
 pub use divisions::divide;
 pub use divisors::{CAPACITY, coprime, gcd};
 pub use products::{multiply, subtract_product};

@@ -14,7 +14,7 @@ use crate::field_lines::field_line;
 use crate::limits::{CALLS, FIELDS, MODULI};
 use crate::moduli::Moduli;
 use crate::rooms::Row;
-use expression::{Cursor, FieldName, Parsed, Stop, modulus_line_at};
+use expression::{Cursor, FieldName, Parsed, Stop, modulus_line};
 use rack::Call;
 
 /// The field that the section here names.
@@ -43,7 +43,7 @@ pub(crate) fn moduli_section(
     let mut next = count.end;
     // By number: a line is named by how many stand before it.
     for i in 0..count.value {
-        let modulus = modulus_line_at(from.at(next), field)?;
+        let modulus = modulus_line(from.sheet, next, field)?;
         moduli.keep(first + i, modulus.value);
         next = modulus.end;
     }

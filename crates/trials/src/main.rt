@@ -5,14 +5,20 @@
 
 ghost use Rattle.std.specs.Prelude.{◌<◌};
 
+use arrayvec::ArrayVec;
 use field::{Bits, Bytes, Clock, Field};
-use plan::{MODULUS_CODES, MOST_POSITIONS, Plan};
+use plan::{MODULUS_CODES, MOST_POSITIONS, MOST_TOTAL, Plan};
 use reader::{Arrived, ReaderFault, Reading, received};
-use std::alloc::{AllocError, Global};
 use std::array;
 
 /// Words of two to six positions are drawn.
 const MOST_DRAWN: u16 = 6;
+
+/// The codes of so many moduli.
+const DRAWN_CODES: usize = MOST_DRAWN as usize * MODULUS_CODES;
+
+/// A message or a word. No plan has one of more codes, so nothing is allocated and no memory can be wanting.
+type Codes = ArrayVec<u16, MOST_TOTAL>;
 
 /// A search goes over this many messages at most.
 const MOST_SEARCHED: u64 = 1024;
@@ -95,28 +101,29 @@ fn draw_modulus<F: Field>(draws: &mut Draws) -> [u16; MODULUS_CODES] {
     modulus
 }
 
-fn draw_moduli<F: Field>(
-    heap: Global,
-    draws: &mut Draws,
-    positions: u16,
-) -> Result<Vec<u16>, AllocError> {
-    let mut codes = Vec::new(heap);
-    for _ in 0..positions {
-        codes.extend_from_slice(&draw_modulus::<F>(draws))?;
+fn draw_moduli<F: Field>(draws: &mut Draws, positions: u16) -> ArrayVec<u16, DRAWN_CODES> {
+    let mut codes = ArrayVec::from([0; DRAWN_CODES]);
+    codes.truncate(usize::from(positions).saturating_mul(MODULUS_CODES));
+    let (moduli, _) = codes.as_mut_slice().as_chunks_mut::<MODULUS_CODES>();
+    for modulus in moduli.iter_mut() {
+        *modulus = draw_modulus::<F>(draws);
     }
-    Ok(codes)
+    codes
 }
 
-fn draw_message<F: Field>(
-    heap: Global,
-    draws: &mut Draws,
-    length: usize,
-) -> Result<Vec<u16>, AllocError> {
-    let mut message = vec![in heap; 0; length]?;
-    for code in message.iter_mut() {
+/// So many codes of 0.
+fn zeros(length: usize) -> Codes {
+    let mut codes = Codes::from([0; MOST_TOTAL]);
+    codes.truncate(length);
+    codes
+}
+
+fn draw_message<F: Field>(draws: &mut Draws, length: usize) -> Codes {
+    let mut message = zeros(length);
+    for code in message.as_mut_slice().iter_mut() {
         *code = draws.below(F::ORDER);
     }
-    Ok(message)
+    message
 }
 
 /// Changes a code of some positions, now and then to a number that is no code. By position: where it starts goes by its number.
@@ -140,18 +147,14 @@ fn strike(draws: &mut Draws) -> [bool; MOST_POSITIONS] {
 }
 
 /// The message whose codes are the digits of a number in base q.
-fn message_number<F: Field>(
-    heap: Global,
-    mut number: u64,
-    length: usize,
-) -> Result<Vec<u16>, AllocError> {
+fn message_number<F: Field>(mut number: u64, length: usize) -> Codes {
     let order = u64::from(F::ORDER);
-    let mut message = vec![in heap; 0; length]?;
-    for code in message.iter_mut() {
+    let mut message = zeros(length);
+    for code in message.as_mut_slice().iter_mut() {
         *code = (number % order) as u16;
         number /= order;
     }
-    Ok(message)
+    message
 }
 
 /// How many messages there are, as far as a `u64` counts.
@@ -159,16 +162,50 @@ fn messages<F: Field>(plan: &Plan<F>) -> u64 {
     (0..plan.message_length()).fold(1u64, |count, _| count.saturating_mul(u64::from(F::ORDER)))
 }
 
-/// The messages within the allowance, by trying all of them.
-fn search<F: Field>(heap: Global, arrived: &Arrived<F>) -> Result<Vec<Vec<u16>>, AllocError> {
-    let mut found = Vec::new(heap);
-    for number in 0..messages(arrived.plan) {
-        let message = message_number::<F>(heap, number, arrived.plan.message_length())?;
-        if arrived.measure(&message) >= 0 {
-            found.push(message)?;
+/// The messages that a search finds within the allowance.
+#[derive(Drop)]
+enum Found {
+    Nothing,
+    Only(Codes),
+    Several,
+}
+
+impl Found {
+    /// One message more.
+    fn and(self, message: Codes) -> Found {
+        match self {
+            Found::Nothing => Found::Only(message),
+            Found::Only(_) | Found::Several => Found::Several,
         }
     }
-    Ok(found)
+
+    /// Whether just what was read is found.
+    fn agrees(&self, answer: &Result<Reading, ReaderFault>) -> bool {
+        match answer {
+            Ok(reading) => self.is_only(reading.codes()),
+            Err(_) => matches!(self, Found::Nothing),
+        }
+    }
+
+    /// Whether these codes are found, and nothing else.
+    fn is_only(&self, codes: &[u16]) -> bool {
+        match self {
+            Found::Only(message) => message.as_slice() == codes,
+            Found::Nothing | Found::Several => false,
+        }
+    }
+}
+
+/// The messages within the allowance, by trying all of them.
+fn search<F: Field>(arrived: &Arrived<F>) -> Found {
+    let mut found = Found::Nothing;
+    for number in 0..messages(arrived.plan) {
+        let message = message_number::<F>(number, arrived.plan.message_length());
+        if arrived.measure(message.as_slice()) >= 0 {
+            found = found.and(message);
+        }
+    }
+    found
 }
 
 /// Holds one reading against the message that was sent.
@@ -212,71 +249,52 @@ fn judge_reading<F: Field>(
     }
 }
 
-/// Whether a search finds just what was read.
-fn is_found(found: &[Vec<u16>], answer: &Result<Reading, ReaderFault>) -> bool {
-    match answer {
-        Ok(reading) => is_only(found, reading.codes()),
-        Err(_) => found.is_empty(),
-    }
-}
-
-/// Whether these codes were found, and nothing else.
-fn is_only(found: &[Vec<u16>], codes: &[u16]) -> bool {
-    match found {
-        [only] => only.as_slice() == codes,
-        _ => false,
-    }
-}
-
 /// Reads what has arrived, and holds it against the message that was sent and against the search where that is short.
-fn read<F: Field>(
-    heap: Global,
-    arrived: &Arrived<F>,
-    sent: &[u16],
-    counts: &mut Counts,
-) -> Result<(), AllocError> {
+fn read<F: Field>(arrived: &Arrived<F>, sent: &[u16], counts: &mut Counts) {
     let answer = arrived.read();
     counts.count(judge(arrived, sent, &answer));
     if messages(arrived.plan) <= MOST_SEARCHED {
         more(&mut counts.searched);
-        if !is_found(&search(heap, arrived)?, &answer) {
+        if !search(arrived).agrees(&answer) {
             more(&mut counts.search_differs);
         }
     }
-    Ok(())
 }
 
 /// One plan, one message, one damaged word.
-fn trial<F: Field>(heap: Global, draws: &mut Draws, counts: &mut Counts) -> Result<(), AllocError> {
+fn trial<F: Field>(draws: &mut Draws, counts: &mut Counts) {
     let extra = draws.below(MOST_DRAWN - 1);
     let positions = extra.saturating_add(2);
     let carriers = 1 + usize::from(draws.below(extra.saturating_add(1)));
-    let codes = draw_moduli::<F>(heap, draws, positions)?;
-    let Ok(plan) = Plan::<F>::new(carriers, &codes) else {
+    let codes = draw_moduli::<F>(draws, positions);
+    let Ok(plan) = Plan::<F>::new(carriers, codes.as_slice()) else {
         more(&mut counts.no_plans);
-        return Ok(());
+        return;
     };
     more(&mut counts.plans);
-    let message = draw_message::<F>(heap, draws, plan.message_length())?;
-    let mut word = vec![in heap; 0; plan.word_length()]?;
-    if plan.encode(&message, &mut word).is_err() {
+    let message = draw_message::<F>(draws, plan.message_length());
+    let mut word = zeros(plan.word_length());
+    if plan
+        .encode(message.as_slice(), word.as_mut_slice())
+        .is_err()
+    {
         more(&mut counts.missed);
-        return Ok(());
+        return;
     }
-    damage(&plan, draws, &mut word);
-    let residues = received(&plan, &word, &strike(draws));
+    damage(&plan, draws, word.as_mut_slice());
+    let residues = received(&plan, word.as_slice(), &strike(draws));
     let arrived = Arrived {
         plan: &plan,
         residues: &residues,
     };
-    read(heap, &arrived, &message, counts)
+    read(&arrived, message.as_slice(), counts);
 }
 
-fn run<F: Field, R: Print + AllocGlobal>(rt: &R, name: &str, trials: u32) -> anyhow::Result<()> {
+fn run<F: Field, R: Print>(rt: &R, name: &str, trials: u32) -> anyhow::Result<()> {
     let mut draws = Draws { state: 2026 };
     let mut counts = Counts::default();
     for _ in 0..trials {
-        trial::<F>(rt.alloc(), &mut draws, &mut counts)?;
+        trial::<F>(&mut draws, &mut counts);
     }
     println!(rt;
         "{name}: {} plans, {} refused",

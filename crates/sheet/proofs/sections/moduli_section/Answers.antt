@@ -18,11 +18,11 @@ loop-i-init c =
 pub returns-in_err-modulus : goal.returns-in_err-modulus
 returns-in_err-modulus c =
     rw (handed_on c.from_residual-in_err-modulus.result c.from_residual-in_err-modulus.ensures.1)
-    (line_lost modulus_kind _ _ _ _ _ c.loop-i-test.true c.loop-i.invariant.1 _ (rw (c.at.ensures.sheet, c.at.ensures.place) at c.in_err-modulus.ensures))
+    (line_lost modulus_kind _ _ _ _ _ c.loop-i-test.true c.loop-i.invariant.1 _ (c.in_err-modulus.ensures.within c.loop-i.invariant.0))
 
 pub loop-i-preserved : goal.loop-i-preserved
 loop-i-preserved c =
-    let r = rw (c.at.ensures.sheet, c.at.ensures.place) at c.in_ok-modulus.ensures in (
+    let r = c.in_ok-modulus.ensures.within c.loop-i.invariant.0 in (
       r.line.within,
       line_read modulus_kind _ _ _ _ _ c.loop-i-test.true c.loop-i.invariant.1 r.expression _ r.line,
       read_more _ _ _ _ _ _ _ _ _ _ c.keep.new.self c.loop-i.invariant.2 r c.keep.ensures,
