@@ -8,7 +8,8 @@ carry_less (suc n) a b = bit_xor (b % 2 * a) (2 * carry_less n a (b / 2))
 
 -- Of a modulus m of degree d: a number with bit d and none above it.
 module _ (d m : ℕ) where
-  -- The remainder by it of p, which has bits below x^(d + n): from the highest bit down, each is cleared by a multiple of the modulus.
+  -- The remainder by it of p, which has bits below x^(d + n): from the highest bit down, each is cleared by a
+  -- multiple of the modulus.
   unfoldable pub reduce : ℕ → ℕ → ℕ
   reduce zero p = p
   reduce (suc n) p = reduce n (bit_xor p (p / 2 ^ (d + n) % 2 * (m * 2 ^ n)))

@@ -44,7 +44,8 @@ pub record Moduli (f : Arithmetic) (n : ℕ) (m : ℕ → ℕ → ℕ) (d : ℕ 
   pub degree : (i : ℕ) → i < n → HasDegree (d i) (m i)
   pub apart : (i j : ℕ) → i < j → j < n → ¬ (ShareFactor f (m i) (m j))
 
--- The word with given residues: the polynomial below the moduli's total degree that is congruent to y i modulo each m i.
+-- The word with given residues: the polynomial below the moduli's total degree that is congruent to y i
+-- modulo each m i.
 pub record IsJoined (f : Arithmetic) (n : ℕ) (m : ℕ → ℕ → ℕ) (d : ℕ → ℕ) (y : ℕ → ℕ → ℕ) (word : ℕ → ℕ) : Type 0 where
   pub polynomial : IsPolynomial f word
   pub below : Below (total d n) word
@@ -62,13 +63,13 @@ ResiduesJoin =
     (f : Arithmetic) → FieldLaws f → (n : ℕ) (m : ℕ → ℕ → ℕ) (d : ℕ → ℕ) (y : ℕ → ℕ → ℕ) → Moduli f n m d → ((i : ℕ) → IsPolynomial f (y i))
     → OneJoined f n m d y
 
--- The message a explains the residues y with the error factor Λ: a modulus that divides Λ may have any residue, and where
--- m i is coprime to Λ the residue is that of a.
+-- The message a explains the residues y with the error factor Λ: a modulus that divides Λ may have any
+-- residue, and where m i is coprime to Λ the residue is that of a.
 abbrev pub Explains : Arithmetic → ℕ → (ℕ → ℕ → ℕ) → (ℕ → ℕ → ℕ) → (ℕ → ℕ) → (ℕ → ℕ) → Type 0
 Explains f n m y a Λ = (i : ℕ) → i < n → Divides f (m i) (multiply f Λ (subtract f (y i) a))
 
--- Two messages below K that explain the same residues, with error factors of degrees e and e', are one message, as long as
--- e + e' + K is at most the moduli's total degree.
+-- Two messages below K that explain the same residues, with error factors of degrees e and e', are one
+-- message, as long as e + e' + K is at most the moduli's total degree.
 abbrev pub OneMessageAtMost : Type 0
 OneMessageAtMost =
     (f : Arithmetic) → FieldLaws f → (n K e e' : ℕ) (m : ℕ → ℕ → ℕ) (d : ℕ → ℕ) (y : ℕ → ℕ → ℕ) (a b Λ Λ' : ℕ → ℕ)
@@ -80,8 +81,9 @@ OneMessageAtMost =
 abbrev pub BelowHalf : ℕ → (ℕ → ℕ) → Type 0
 BelowHalf n p = (i : ℕ) → n ≤ 2 * i → p i ≡ 0
 
--- Where Euclid's extended algorithm on M, of degree D, and Y is stopped: at the first remainder r of degree less than
--- (D + K)/2, which is s·M + t·Y. The remainder before it has the degree `before`, which is not less, and deg t + before = D.
+-- Where Euclid's extended algorithm on M, of degree D, and Y is stopped: at the first remainder r of degree
+-- less than (D + K)/2, which is s·M + t·Y. The remainder before it has the degree `before`, which is not
+-- less, and deg t + before = D.
 pub record Stopped (f : Arithmetic) (D K : ℕ) (M Y r t : ℕ → ℕ) : Type 0 where
   pub r_polynomial : IsPolynomial f r
   pub t_polynomial : IsPolynomial f t
@@ -101,17 +103,17 @@ EuclidStops =
     (f : Arithmetic) → FieldLaws f → (D K : ℕ) (M Y : ℕ → ℕ) → IsPolynomial f M → IsPolynomial f Y → HasDegree D M → Below D Y → K ≤ D
     → (r : ℕ → ℕ) × (t : ℕ → ℕ) × Stopped f D K M Y r t
 
--- And where it stops, r = t·a for every message a below K that the word Y agrees with but for an error factor Λ of degree e,
--- as long as 2e + K is at most D.
+-- And where it stops, r = t·a for every message a below K that the word Y agrees with but for an error factor
+-- Λ of degree e, as long as 2e + K is at most D.
 abbrev pub ReconstructionStands : Type 0
 ReconstructionStands =
     (f : Arithmetic) → FieldLaws f → (D K e : ℕ) (M Y Λ a r t : ℕ → ℕ) → IsPolynomial f M → IsPolynomial f Y → IsPolynomial f Λ → IsPolynomial f a
     → HasDegree D M → HasDegree e Λ → 2 * e + K ≤ D → Below K a → Stopped f D K M Y r t
     → Congruent f M (multiply f Λ Y) (multiply f Λ a) → r ≡ multiply f t a
 
--- What the residues that are present tell of the message: r and t, with t not 0, such that r = t·a for every message a below
--- K whose residues they are but for wrong ones, as long as the wrong moduli's total degree, twice, and K are together at most
--- the present moduli's.
+-- What the residues that are present tell of the message: r and t, with t not 0, such that r = t·a for every
+-- message a below K whose residues they are but for wrong ones, as long as the wrong moduli's total degree,
+-- twice, and K are together at most the present moduli's.
 pub record Found (f : Arithmetic) (n K : ℕ) (m : ℕ → ℕ → ℕ) (d : ℕ → ℕ) (y : ℕ → ℕ → ℕ) (present : ℕ → Bool) : Type 0 where
   pub r : ℕ → ℕ
   pub t : ℕ → ℕ
@@ -139,6 +141,7 @@ abbrev pub ReductionIsRemainder : Type 0
 ReductionIsRemainder =
     (d m n p : ℕ) → 2 ^ d ≤ m → m < 2 ^ (d + 1) → p < 2 ^ (d + n) → OneBitRemainder d m p (reduce d m n p)
 
--- So a product of bytes is the remainder of the product of their polynomials: a · b = quotient · 0x11D + the answer, which is a byte.
+-- So a product of bytes is the remainder of the product of their polynomials: a · b = quotient · 0x11D + the
+-- answer, which is a byte.
 abbrev pub ByteProductIsRemainder : Type 0
 ByteProductIsRemainder = (a b : ℕ) → a < 256 → b < 256 → OneBitRemainder 8 0x11D (carry_less 8 a b) (byte_product a b)

@@ -1,5 +1,6 @@
-//! The algebra that the other crates stand on: finite fields by their codes, and polynomials over them by their coefficients.
-//! Its definitions are in specs/, its theorems in proofs/. The functions here do nothing: each asks for a theorem.
+//! The algebra that the other crates stand on: finite fields by their codes, and polynomials over them by
+//! their coefficients. Its definitions are in specs/, its theorems in proofs/. The functions here do nothing:
+//! each asks for a theorem.
 #![tactic(auto)]
 
 ghost use Rattle.algebra.specs.Theorems.{CodesFormAField, DivisionIsUnique, CoprimeOrShared, ResiduesJoin};

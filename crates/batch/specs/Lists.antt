@@ -23,8 +23,8 @@ request_at entries i = given_by (entry_at entries i).call
 abbrev pub ledger_before : Scheme → ℕ → Ledger → List Entry → ℕ → Ledger
 ledger_before s S l entries i = after s S l (requests (take i entries))
 
--- Each call of a list is answered by the ledger as it then stands; `before` is the list as it was handed in, and `done` is the
--- list once it is run.
+-- Each call of a list is answered by the ledger as it then stands; `before` is the list as it was handed in,
+-- and `done` is the list once it is run.
 pub record Ran (s : Scheme) (S : ℕ) (l : Ledger) (before done : List Entry) : Type 0 where
   pub long : length done ≡ length before
   pub told :
@@ -32,8 +32,9 @@ pub record Ran (s : Scheme) (S : ℕ) (l : Ledger) (before done : List Entry) : 
       → (outcome : Outcome) × ((entry_at done i).outcome ≡ Some outcome)
       × Told s S (ledger_before s S l before i) (request_at before i) outcome (request_at done i)
 
--- A list run on a rack: the rack is what its calls make of it, one after the other; and a ledger that agreed with the rack
--- before the list tells every answer, and agrees with the rack again once the list is written there.
+-- A list run on a rack: the rack is what its calls make of it, one after the other; and a ledger that agreed
+-- with the rack before the list tells every answer, and agrees with the rack again once the list is written
+-- there.
 pub record RunsOn (r : State) (before done : List Entry) (r' : State) : Type 0 where
   pub left : r' ≡ fold state_after r (requests before)
   pub stays : IsRack r'

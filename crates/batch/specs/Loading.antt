@@ -1,5 +1,6 @@
--- What making racks and running lists of calls on them answers, over any field and memory. A `Loading` is a memory, S and a list of
--- calls; `done` is that list afterwards. Run: the promise. Not run: why, and all is as it was.
+-- What making racks and running lists of calls on them answers, over any field and memory. A `Loading` is a
+-- memory, S and a list of calls; `done` is that list afterwards. Run: the promise. Not run: why, and all is
+-- as it was.
 use Rattle.std.specs.Prelude.{◌≡◌, ℕ, List, Ok, Err, Result}
 use Rattle.field.specs.declared.Field as field
 use Rattle.memory.specs.declared.meaning.Memory as memory

@@ -1,5 +1,5 @@
--- The promise about arrangements: what every list of calls on a rack straight from its making keeps, and what any two readings
--- under one plan have to do with one another.
+-- The promise about arrangements: what every list of calls on a rack straight from its making keeps, and what
+-- any two readings under one plan have to do with one another.
 use Rattle.std.specs.Prelude.{◌≡◌, ℕ, ◌<◌, List, length, take, Some, None, Ok, fold}
 use Rattle.field.specs.declared.Field as field
 use Rattle.memory.specs.declared.meaning.Memory as memory
@@ -18,8 +18,8 @@ use Rattle.batch.specs.Lists.{Ran, entry_at, ledger_before, request_at, requests
 use Rattle.batch.specs.declared.entry.Entry.{Entry}
 use Rattle.batch.specs.declared.loading.Loading.{Loading}
 
--- A list of calls on a rack straight from its making: S; the cells and the top of the memory as it was handed in; the list as it
--- was handed in, and once it is run; and the rack as it is given back.
+-- A list of calls on a rack straight from its making: S; the cells and the top of the memory as it was handed
+-- in; the list as it was handed in, and once it is run; and the rack as it is given back.
 pub record Load : Type 0 where
   pub slots : ℕ
   pub cells : List ℕ
@@ -75,7 +75,8 @@ module _ (s : Scheme) where
     pub one_gave : Gave one i here.channel here.slot codes
     pub other_gave : Gave other j there.channel there.slot codes
 
-  -- The law of two readings, call i of one list and call j of the other. The two lists may be one, and so may the readings.
+  -- The law of two readings, call i of one list and call j of the other. The two lists may be one, and so may
+  -- the readings.
   pub record SameMessages (one other : Load) : Type 0 where
     -- They are equal messages exactly when some message lies within the allowance of both accounts.
     pub equal :
@@ -112,7 +113,8 @@ module _ (s : Scheme) where
     -- Any two readings of the list are equal messages exactly when one message lies within both allowances.
     pub same_within : SameMessages load load
 
-  -- Two lists of calls on two racks under one plan: each keeps what one list keeps, and the law of two readings holds across them.
+  -- Two lists of calls on two racks under one plan: each keeps what one list keeps, and the law of two
+  -- readings holds across them.
   pub record Promise (one other : Load) : Type 0 where
     pub first : Kept one
     pub second : Kept other

@@ -17,8 +17,8 @@ module _ (f : Arithmetic) (k : ℕ) (codes : List ℕ) where
   LoadRefused S cells top (load.Plan fault) = Refused f k codes fault
   LoadRefused S cells top (load.Rack fault) = Accepted f k codes × ¬ (Fits (handed_in f k codes) S cells top)
 
-  -- Two racks, the first of S slots and the second of T: there is no plan; or there is one, and the first rack does not fit; or that
-  -- fits, and the second does not.
+  -- Two racks, the first of S slots and the second of T: there is no plan; or there is one, and the first
+  -- rack does not fit; or that fits, and the second does not.
   abbrev pub PairRefused : (S : ℕ) → List ℕ → (top : ℕ) → (T : ℕ) → List ℕ → (top' : ℕ) → PairFault → Type 0
   PairRefused S cells top T cells' top' (pair.Plan fault) = Refused f k codes fault
   PairRefused S cells top T cells' top' (pair.First fault) = Accepted f k codes × ¬ (Fits (handed_in f k codes) S cells top)

@@ -18,8 +18,9 @@ pub struct NotPaired<M: Memory, W: Memory> {
     pub fault: PairFault,
 }
 
-/// What is to be run: a list of calls, on a rack of so many slots over a memory. In a clause `entry` is what was handed in, and
-/// `exit` holds what was lent with it, as it is afterwards: `exit.0`, the first, is the list.
+/// What is to be run: a list of calls, on a rack of so many slots over a memory. In a clause `entry` is what
+/// was handed in, and `exit` holds what was lent with it, as it is afterwards: `exit.0`, the first, is the
+/// list.
 pub struct Loading<'a, M: Memory> {
     pub entries: &'a mut [Entry],
     pub memory: M,
@@ -39,7 +40,6 @@ pub fn load<F: Field, M: Memory>(
         memory,
         slots,
     } = loading;
-    // By match: a closure for `map_err` would take the memory that the rack needs.
     let plan = match Plan::<F>::new(carriers, moduli) {
         Ok(plan) => plan,
         Err(fault) => {
@@ -60,7 +60,8 @@ pub fn load<F: Field, M: Memory>(
     })
 }
 
-/// Makes a rack under a plan that is there already, and runs the calls. A refusal alters neither the memory nor an entry.
+/// Makes a rack under a plan that is there already, and runs the calls. A refusal alters neither the memory
+/// nor an entry.
 pub fn load_under<F: Field, M: Memory>(
     plan: Plan<F>,
     loading: Loading<'_, M>,
@@ -77,9 +78,9 @@ pub fn load_under<F: Field, M: Memory>(
     Ok(rack)
 }
 
-/// Makes the plan and two racks, over any two kinds of memory, and runs a list of calls on each. A refusal alters neither a memory
-/// nor an entry. Its contract is the promise about arrangements: for every field, plan and memory, whatever the cells first hold,
-/// and for all lists of calls.
+/// Makes the plan and two racks, over any two kinds of memory, and runs a list of calls on each. A refusal
+/// alters neither a memory nor an entry. Its contract is the promise about arrangements: for every field,
+/// plan and memory, whatever the cells first hold, and for all lists of calls.
 pub fn load_pair<F: Field, M: Memory, W: Memory>(
     carriers: usize,
     moduli: &[u16],

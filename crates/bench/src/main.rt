@@ -10,8 +10,9 @@ use plan::{MODULUS_CODES, Plan};
 use rack::{Channel, Rack};
 use std::alloc::{AllocError, Global};
 
-// Each position stands for a point a, and its modulus is z + a. A nibble is its own negative, so the remainder by z + a is what the
-// message is worth where z is a: a word is five values of a polynomial, of which any two tell it.
+// Each position stands for a point a, and its modulus is z + a. A nibble is its own negative, so the
+// remainder by z + a is what the message is worth where z is a: a word is five values of a polynomial, of
+// which any two tell it.
 const POINTS: [u16; 5] = [0, 1, 2, 3, 4];
 
 // So many positions carry a message, and so many codes it has.
@@ -115,7 +116,8 @@ fn show_readings<M: Memory, R: Print>(
     Ok(())
 }
 
-/// A cell of the first channel's slot is overwritten, as a fault in the memory would, and the channel strikes a position.
+/// A cell of the first channel's slot is overwritten, as a fault in the memory would, and the channel strikes
+/// a position.
 fn show_damage<M: Memory, R: Print>(
     rt: &R,
     rack: &mut Rack<Nibbles, M>,

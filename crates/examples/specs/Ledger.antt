@@ -9,8 +9,9 @@ use Rattle.rack.specs.declared.faults.RackFault.TheVariants.{NoChannel, Slot}
 use Rattle.rack.specs.declared.faults.SlotFault.TheVariants.{Closed, NoCode, NoPosition, NoSlot, OpenAlready, OtherChannel, Unread, WrongLength}
 use Rattle.examples.specs.Plans.{P}
 
--- A lesson on a rack of four slots under P: channel A, number 0, opens slot 1 and puts the residues of 1 + z at the carrying positions,
--- reads, puts a wrong residue at the third position, reads again; channel B tries to put there; A closes the slot.
+-- A lesson on a rack of four slots under P: channel A, number 0, opens slot 1 and puts the residues of 1 + z
+-- at the carrying positions, reads, puts a wrong residue at the third position, reads again; channel B tries
+-- to put there; A closes the slot.
 abbrev pub lesson : List Request
 lesson =
     opens 0 1 ∷ puts 0 1 0 (1 ∷ []) ∷ puts 0 1 1 (0 ∷ []) ∷ reads 0 1 (0 ∷ 0 ∷ []) ∷ puts 0 1 2 (0 ∷ 1 ∷ []) ∷ reads 0 1 (0 ∷ 0 ∷ [])

@@ -14,7 +14,8 @@ pub record WordExamples : Type 0 where
   pub two_codes : message_length P ≡ 2
   -- 1 + z leaves 1|0|1 1|1 1 0
   pub in_bits : word P (1 ∷ 1 ∷ []) ≡ 1 ∷ 0 ∷ 1 ∷ 1 ∷ 1 ∷ 1 ∷ 0 ∷ []
-  -- so it is encoded, whatever the buffer of seven codes held; a message of one code is refused, and the right length told
+  -- so it is encoded, whatever the buffer of seven codes held; a message of one code is refused, and the
+  -- right length told
   pub encoded :
       (buffer : List ℕ) → length buffer ≡ 7
       → Encoded P (1 ∷ 1 ∷ []) buffer (1 ∷ 0 ∷ 1 ∷ 1 ∷ 1 ∷ 1 ∷ 0 ∷ []) (Ok tt)

@@ -1,4 +1,5 @@
--- The worked examples as one list, to which each layer adds its own. Each is a statement about the definitions that contracts cite.
+-- The worked examples as one list, to which each layer adds its own. Each is a statement about the
+-- definitions that contracts cite.
 use Rattle.examples.specs.Expressions.{ExpressionExamples}
 use Rattle.examples.specs.Factors.{FactorExamples}
 use Rattle.examples.specs.Fields.{FieldExamples}

@@ -1,4 +1,5 @@
-//! The worked examples of all layers, as one theorem about the definitions, and tests of fields, plans, the reader and memories.
+//! The worked examples of all layers, as one theorem about the definitions, and tests of fields, plans, the
+//! reader and memories.
 #![tactic(auto)]
 
 ghost use Rattle.examples.specs.Worked.{WorkedExamples};

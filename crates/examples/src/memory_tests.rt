@@ -10,7 +10,8 @@ use spread::Spread;
 use std::process::Abort;
 use std::test::Fail;
 
-// What one memory over a lent buffer promises, read for bytes, for words and for bits. Each contract is proved from the generic one.
+// What one memory over a lent buffer promises, read for bytes, for words and for bits. Each contract is
+// proved from the generic one.
 fn set_byte(buffer: &mut [u8], j: usize, v: u16) -> bool
     ensures answer { result ≡ accepts (held buffer.old) byte_top j v }
     ensures after { buffer.new ≡ replaced result buffer.old j v }

@@ -17,7 +17,8 @@ const FOUR_OVER_BYTES: [u16; 36] = [
 // z^2 + z + 1 and z^2 + z over bits.
 const TWO_OVER_BITS: [u16; 18] = [1, 1, 1, 0, 0, 0, 0, 0, 0, 0, 1, 1, 0, 0, 0, 0, 0, 0];
 
-// Which positions are present: the first as they are told, and no other. `received` takes a flag for each that a plan can have.
+// Which positions are present: the first as they are told, and no other. `received` takes a flag for each
+// that a plan can have.
 fn presence(first: &[bool]) -> [bool; MOST_POSITIONS] {
     array::from_fn(|i| first.get(i).copied().unwrap_or(false))
 }

@@ -1,5 +1,5 @@
--- How expressions are written: a sum is terms joined by `+`, a term is factors joined by `*`, and a factor is a number of one to three
--- digits, `z`, `z^` and such a number, or a sum in brackets.
+-- How expressions are written: a sum is terms joined by `+`, a term is factors joined by `*`, and a factor is
+-- a number of one to three digits, `z`, `z^` and such a number, or a sum in brackets.
 use Rattle.std.specs.Prelude.{◌≡◌, ℕ, suc, ◌+◌, ◌-◌, ◌*◌, ◌≤◌, List, [], ◌∷◌, ◌++◌, length}
 use Rattle.std.specs.List.{AllByRecursion}
 use Rattle.expression.specs.Bytes.{Digit, caret, first_digit, left_bracket, letter_z, line_end, plus_sign, right_bracket, times_sign}

@@ -1,4 +1,4 @@
--- Inner: no public contract cites this.
+-- Inner, but for `DigitsTo`, which the contract of `digits_end` cites: no other public contract cites this.
 -- What the readers of a sum, a term and a factor promise each other: what was read, or where reading stopped.
 use Rattle.std.specs.Prelude.{◌≡◌, ℕ, ◌+◌, ◌<◌, ◌≤◌, ◌⊎◌, List, ◌++◌, length, MatchResult, Result, slice_index}
 use Rattle.std.specs.List.{between, AllByRecursion}
@@ -25,8 +25,8 @@ Follows factor b = (b ≡ times_sign) ⊎ AfterTerm b
 Follows term b = AfterTerm b
 Follows sum b = AfterSum b
 
--- From i to j stands a phrase of the kind, and the codes are its value; the byte at j may stand after one of the kind `follow`, or
--- with it no line goes on.
+-- From i to j stands a phrase of the kind, and the codes are its value; the byte at j may stand after one of
+-- the kind `follow`, or with it no line goes on.
 pub record Reading (kind follow : Kind) (f : Arithmetic) (n : ℕ) (s : List ℕ) (i j : ℕ) (codes : Value) : Type 0 where
   pub expression : Expression
   pub more : i < j

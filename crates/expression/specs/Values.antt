@@ -1,5 +1,6 @@
--- The value of an expression over a field: nine codes, lowest power first; or none, where a number other than an exponent is no code or a value of degree
--- above 8 is formed, even midway. Values are formed left to right.
+-- The value of an expression over a field: nine codes, lowest power first; or none, where a number other than
+-- an exponent is no code or a value of degree above 8 is formed, even midway. Values are formed left to
+-- right.
 use Rattle.std.specs.Prelude.{ℕ, ◌+◌, ◌-◌, Bool, List, ◌∷◌, ◌++◌, map, take, drop, replicate, Some, None, Option, ◌==◌, nat_lt}
 use Rattle.std.specs.Bool.{then_some}
 use Rattle.std.specs.List.{list_all, range_with_len}

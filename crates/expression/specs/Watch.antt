@@ -1,6 +1,6 @@
 -- Inner: no public contract cites this.
--- A watch that follows a line byte by byte and knows no values. It serves the proofs alone, to show that after some byte no line
--- goes on: the readers promise each other what it sees.
+-- A watch that follows a line byte by byte and knows no values. It serves the proofs alone, to show that
+-- after some byte no line goes on: the readers promise each other what it sees.
 use Rattle.std.specs.Prelude.{ℕ, zero, suc, ◌-◌, Bool, cond, ◌&&◌, List, [], ◌∷◌, ◌==◌, nat_le, nat_lt}
 use Rattle.expression.specs.Bytes.{caret, first_digit, last_digit, left_bracket, letter_z, line_end, plus_sign, right_bracket, times_sign}
 use Rattle.expression.specs.Limits.{most_brackets, most_digits}

@@ -1,5 +1,5 @@
-//! Places of a sheet. Readers take a place with its sheet; what they read ends at a bare place, so that a contract need not say that
-//! the sheet is still the same.
+//! Places of a sheet. Readers take a place with its sheet; what they read ends at a bare place, so that a
+//! contract need not say that the sheet is still the same.
 ghost use Rattle.std.specs.Prelude.{◌≤◌, length};
 
 use crate::parts::Part;

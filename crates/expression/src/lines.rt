@@ -14,9 +14,10 @@ use crate::signs::Sign;
 use crate::tokens::sign_at;
 use crate::values::Value;
 
-/// Reads the line that begins at `from`: a sum and the end of the line. What is read are the codes of its modulus, lowest power first, or
-/// none where a number is no code of the field or a value of degree above eight is formed, even midway. It stops at the first byte with
-/// which what stands from `from` on begins no such line, or at the sheet's end where the sheet ends too early.
+/// Reads the line that begins at `from`: a sum and the end of the line. What is read are the codes of its
+/// modulus, lowest power first, or none where a number is no code of the field or a value of degree above
+/// eight is formed, even midway. It stops at the first byte with which what stands from `from` on begins no
+/// such line, or at the sheet's end where the sheet ends too early.
 pub fn modulus_line_at(from: Cursor, field: FieldName) -> Result<Parsed<Value>, Stop>
     ensures { Here from.entry (λ s i. MatchResult result (λ line. LineRead (arithmetic_of field) s i line.end line.value) (λ stop. Lost AnyLine s i stop.place)) }
 {

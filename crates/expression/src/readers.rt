@@ -1,5 +1,6 @@
-//! The readers of a sum, a term and a factor. They call each other, and the number of brackets that may still be opened falls.
-//! A value that passes a limit becomes none and reading goes on, so that a fault of writing later in the line is found.
+//! The readers of a sum, a term and a factor. They call each other, and the number of brackets that may still
+//! be opened falls. A value that passes a limit becomes none and reading goes on, so that a fault of writing
+//! later in the line is found.
 ghost use Rattle.expression.specs.Bytes.{letter_z};
 ghost use Rattle.expression.specs.Grammar.{factor as Factor, sum as Sum, term as Term};
 ghost use Rattle.expression.specs.Readings.{Reads};
@@ -31,8 +32,7 @@ pub fn sum(from: Cursor, scope: Scope) -> Result<Parsed<Value>, Stop>
     Ok(whole)
 }
 
-/// A term: factors joined by `*`. Sum and term are not one reader over the kind: it would ask three times which of the two it is, for the
-/// part, for the sign and for what is formed.
+/// A term: factors joined by `*`.
 #[cycle(factor_sum_term)]
 fn term(from: Cursor, scope: Scope) -> Result<Parsed<Value>, Stop>
     ensures { Reads Term scope from.entry result }

@@ -1,4 +1,5 @@
-//! The tokens of an expression: each number, word and sign is the part of the sheet that it was read from, with its byte place.
+//! The tokens of an expression: each number, word and sign is the part of the sheet that it was read from,
+//! with its byte place.
 ghost use Rattle.std.specs.Prelude.{◌≡◌, ◌+◌, ◌<◌, ◌≤◌, ◌^◌, length};
 ghost use Rattle.std.specs.List.{AllByRecursion};
 ghost use Rattle.expression.specs.Cursors.{Here};
@@ -22,7 +23,8 @@ pub enum Token<'a> {
     End(usize),
 }
 
-/// Where the digits that stand here end, of which there may be `MOST`. One digit more is left for what comes after them.
+/// Where the digits that stand here end, of which there may be `MOST`. One digit more is left for what comes
+/// after them.
 pub fn digits_end<const MOST: usize>(from: Cursor) -> usize
     ensures { Here from.entry (λ s i. DigitsTo MOST s i result) }
 {
@@ -30,7 +32,8 @@ pub fn digits_end<const MOST: usize>(from: Cursor) -> usize
     from.place + few.take_while(|byte| byte.is_ascii_digit()).count()
 }
 
-/// The token at a place. A sign is any one byte that begins no number and is no z: its reader says whether it may stand there.
+/// The token at a place. A sign is any one byte that begins no number and is no z: its reader says whether it
+/// may stand there.
 pub fn token_at<'a>(from: Cursor<'a>) -> Token<'a>
     ensures { Here from.entry (λ s i. TokenAt s i result) }
 {

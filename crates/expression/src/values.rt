@@ -1,5 +1,5 @@
-//! The values of expressions: what a number, a power of z, a sum and a product are worth over a field given by its name.
-//! A value is nine codes, lowest power first, or none once a limit was passed.
+//! The values of expressions: what a number, a power of z, a sum and a product are worth over a field given
+//! by its name. A value is nine codes, lowest power first, or none once a limit was passed.
 ghost use Rattle.std.specs.Prelude.{◌≡◌, ◌-◌, ◌<◌, ◌∷◌, ◌++◌, replicate};
 ghost use Rattle.algebra.specs.Field.{Arithmetic};
 ghost use Rattle.plan.specs.Limits.{modulus_codes};
@@ -90,7 +90,6 @@ pub fn power_value(n: u16) -> Value
     ensures { result ≡ power_value n }
 {
     let exponent = usize::from(n);
-    // By if: `then` takes a closure, where it is not known that the exponent fits.
     if exponent < MODULUS_CODES {
         Some(monomial(1, exponent))
     } else {

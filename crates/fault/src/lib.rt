@@ -44,8 +44,8 @@ impl fmt::Display for Layer {
     }
 }
 
-/// Why something was refused, as a user sees it: its number is only shown, and code tells refusals apart by the enums of
-/// faults. A place that the ground does not name is 0, as it is shown.
+/// Why something was refused, as a user sees it: its number is only shown, and code tells refusals apart by
+/// the enums of faults. A place that the ground does not name is 0, as it is shown.
 #[derive(Clone, Copy, PartialEq, Eq, Debug)]
 pub struct Ground {
     pub number: u8,

@@ -5,8 +5,8 @@ ghost use Rattle.algebra.proofs.Modular.{bit_laws};
 
 use crate::Field;
 
-/// The numbers 0 and 1 modulo 2. Not one type with `Clock` over a constant: here sums and products are single instructions, and no
-/// table of inverses is needed.
+/// The numbers 0 and 1 modulo 2. Not one type with `Clock` over a constant: here sums and products are single
+/// instructions, and no table of inverses is needed.
 #[derive(Clone, Copy)]
 pub struct Bits;
 

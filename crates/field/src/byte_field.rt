@@ -9,8 +9,7 @@ use crate::Field;
 use crate::byte_exponents::EXPONENTS;
 use crate::byte_powers::POWERS;
 
-/// Bytes: the sum is exclusive or, the product that of bit polynomials reduced by 0x11D. Sum and negative are those of `Bits` but for the
-/// order; one line each, they are written twice rather than passed an order.
+/// Bytes: the sum is exclusive or, the product that of bit polynomials reduced by 0x11D.
 #[derive(Clone, Copy)]
 pub struct Bytes;
 

@@ -16,8 +16,8 @@ pub use bit_field::Bits;
 pub use byte_field::Bytes;
 pub use clock_field::Clock;
 
-/// A finite field. An element is written as its code, a number below the field's order; an operation given any
-/// other number answers 0. Each tests its numbers itself: a function for the test would take the operation as a closure, which is longer.
+/// A finite field. An element is written as its code, a number below the field's order; an operation given
+/// any other number answers 0.
 pub trait Field {
     /// How many elements there are, from 2 to 32,768.
     const ORDER: u16;

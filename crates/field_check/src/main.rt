@@ -1,5 +1,6 @@
-//! Tells of operations on codes whether they are those of a field; and if not, which law they break, and at which codes. What the
-//! check refuses as a field is written here as code, tried at every code and every pair, and handed on as tables.
+//! Tells of operations on codes whether they are those of a field; and if not, which law they break, and at
+//! which codes. What the check refuses as a field is written here as code, tried at every code and every
+//! pair, and handed on as tables.
 #![tactic(auto)]
 
 mod operations;

@@ -13,8 +13,8 @@ both_forms v = record { plain = v; turned = max_top - v }
 abbrev pub shown : Twice → ℕ
 shown t = cond (t.turned == max_top - t.plain) t.plain max_top
 
--- What two forms show: both forms of a number show the number; and forms of which one is not what the other asks for show
--- the top, which is a code of no field.
+-- What two forms show: both forms of a number show the number; and forms of which one is not what the other
+-- asks for show the top, which is a code of no field.
 pub record FormsShow : Type 0 where
   pub sound : (v : ℕ) → shown (both_forms v) ≡ v
   pub damaged : (t : Twice) → ¬ (t.turned ≡ max_top - t.plain) → shown t ≡ max_top

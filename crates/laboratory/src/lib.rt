@@ -1,4 +1,5 @@
-//! Memories and a field that a laboratory wrote itself. docs/OWN-MEMORY.md and docs/OWN-FIELD.md go through them step by step.
+//! Memories and a field that a laboratory wrote itself. docs/OWN-MEMORY.md and docs/OWN-FIELD.md go through
+//! them step by step.
 #![tactic(auto)]
 
 mod half_bytes;

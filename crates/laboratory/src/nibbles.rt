@@ -45,8 +45,8 @@ fn multiply(a: u16, b: u16) -> u16
     sum
 }
 
-/// The product of two nibbles is the remainder of their product as bit polynomials by 0x13. The function does nothing: it asks for the
-/// theorem.
+/// The product of two nibbles is the remainder of their product as bit polynomials by 0x13. The function does
+/// nothing: it asks for the theorem.
 pub fn nibble_product_is_remainder()
     ensures { NibbleProductIsRemainder }
 {}

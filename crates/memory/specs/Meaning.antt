@@ -36,7 +36,8 @@ pub record Gets (cells : List ℕ) (top j : ℕ) (answer : Option ℕ) : Type 0 
   pub value : answer ≡ cell_at cells j
   pub within : Within top answer
 
--- What setting cell j to v answers, and the cells and the top afterwards: neither the top nor the number of cells changes.
+-- What setting cell j to v answers, and the cells and the top afterwards: neither the top nor the number of
+-- cells changes.
 pub record Sets (cells : List ℕ) (top j v : ℕ) (answer : Bool) (cells' : List ℕ) (top' : ℕ) : Type 0 where
   pub accepted : answer ≡ accepts cells top j v
   pub after : cells' ≡ replaced answer cells j v

@@ -8,8 +8,8 @@ use crate::limits::{MAX_TOP, held_len};
 
 /// A kind of cells, and how a row of them lies in a buffer.
 ///
-/// Its meaning are the ghost members `TOP` and `cells`: the top, and the row of all cells of a buffer. It keeps a law, `ranged`: the top is in
-/// its range.
+/// Its meaning are the ghost members `TOP` and `cells`: the top, and the row of all cells of a buffer. It
+/// keeps a law, `ranged`: the top is in its range.
 pub trait Cell {
     /// What the buffer is made of.
     type Unit;

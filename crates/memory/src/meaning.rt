@@ -22,8 +22,9 @@ pub trait Memory {
     fn get(&self, j: usize) -> Option<u16>
         ensures { Gets (cells self.now) (top self.now) j result };
 
-    /// Replaces cell j, and no other, by v. Refuses, and alters nothing, when there is no cell j or v is above the top. Answers whether it
-    /// was accepted, and no error: which of the two a refusal was is plain from `len` and `top_value`.
+    /// Replaces cell j, and no other, by v. Refuses, and alters nothing, when there is no cell j or v is
+    /// above the top. Answers whether it was accepted, and no error: which of the two a refusal was is plain
+    /// from `len` and `top_value`.
     fn set(&mut self, j: usize, v: u16) -> bool
         ensures { Sets (cells self.old) (top self.old) j v result (cells self.new) (top self.new) };
 

@@ -16,7 +16,8 @@ pub struct Numbers<'a>(pub &'a [u16]);
 pub const LONGEST_NUMBER: usize = 6;
 
 impl Numbers<'_> {
-    /// Appends the row to a text, or where there is no room for all of it, nothing. Within the capacity nothing is allocated.
+    /// Appends the row to a text, or where there is no room for all of it, nothing. Within the capacity
+    /// nothing is allocated.
     pub fn append_to(&self, text: &mut Vec<u8>) -> Result<(), AllocError>
         ensures items { text.new.items ≡ (if is_ok result then text.old.items ++ row_text self.now.0.now else text.old.items) }
         ensures capacity { vec_capacity text.old ≤ vec_capacity text.new }

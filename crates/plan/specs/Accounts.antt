@@ -4,7 +4,8 @@ use Rattle.algebra.specs.Field.{FieldLaws}
 use Rattle.algebra.specs.Polynomial.{coefficients}
 use Rattle.plan.specs.Schemes.{Scheme, IsScheme, IsMessage, positions, degree, residue, word_length, message_length}
 
--- An account gives each position a residue, or calls it missing; what it says past the last position counts for nothing.
+-- An account gives each position a residue, or calls it missing; what it says past the last position counts
+-- for nothing.
 abbrev pub Account : Type 0
 Account = ℕ → Option (List ℕ)
 
@@ -26,7 +27,8 @@ module _ (s : Scheme) where
   lost i None = degree s i
   lost i (Some y) = 0
 
-  -- What a present residue costs a message: the position's degree where it differs from the residue in the message's word.
+  -- What a present residue costs a message: the position's degree where it differs from the residue in the
+  -- message's word.
   abbrev pub charge : List ℕ → ℕ → Option (List ℕ) → ℕ
   charge message i None = 0
   charge message i (Some y) = cond (same y (residue s message i)) 0 (degree s i)
@@ -49,7 +51,8 @@ module _ (s : Scheme) where
     pub is_message : IsMessage s message
     pub margin_enough : pos 0 ≤ℤ margin account message
 
--- A message lies within the allowance of its own word, nothing missing: so every message can be read. This asks no law of the field.
+-- A message lies within the allowance of its own word, nothing missing: so every message can be read. This
+-- asks no law of the field.
 abbrev pub OwnWordWithin : Type 0
 OwnWordWithin =
     (s : Scheme) → IsScheme s → (message : List ℕ) → IsMessage s message → Within s (λ i. Some (residue s message i)) message
@@ -71,7 +74,8 @@ pub record FitsPosition (s : Scheme) (i : ℕ) (y : List ℕ) : Type 0 where
   pub long : length y ≡ degree s i
   pub codes : (j : ℕ) → coefficients y j < s.arithmetic.order
 
--- A residue of another length, or with a number of q or more, is wrong for every message: it is charged the position's degree.
+-- A residue of another length, or with a number of q or more, is wrong for every message: it is charged the
+-- position's degree.
 abbrev pub MisfitIsWrong : Type 0
 MisfitIsWrong =
     (s : Scheme) → FieldLaws s.arithmetic → (i : ℕ) (y : List ℕ) → ¬ (FitsPosition s i y)

@@ -60,7 +60,8 @@ abbrev pub Encoded : Scheme → List ℕ → List ℕ → List ℕ → Result (U
 Encoded s message before after (Ok done) = IsMessage s message × (length before ≡ word_length s) × (after ≡ word s message)
 Encoded s message before after (Err fault) = EncodeRefused s message before fault × (after ≡ before)
 
--- Position by position, the word holds the remainder of the message by the modulus: message = quotient · modulus + remainder.
+-- Position by position, the word holds the remainder of the message by the modulus: message = quotient ·
+-- modulus + remainder.
 abbrev pub HoldsRemainders : Scheme → List ℕ → List ℕ → Type 0
 HoldsRemainders s message codes =
     (i : ℕ) → i < positions s

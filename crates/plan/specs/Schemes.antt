@@ -18,7 +18,8 @@ abbrev pub extent : List ℕ → ℕ
 extent [] = 0
 extent (c ∷ codes) = cond (extent codes == 0 && c == 0) 0 (suc (extent codes))
 
--- The degree of a polynomial other than 0. Of 0 it says 0, where the rules say -1: either is below 1, so no lawful modulus has it.
+-- The degree of a polynomial other than 0. Of 0 it says 0, where the rules say -1: either is below 1, so no
+-- lawful modulus has it.
 abbrev pub degree_of : List ℕ → ℕ
 degree_of codes = extent codes - 1
 

@@ -6,12 +6,13 @@ use Rattle.algebra.specs.Remainder.{IsRemainder}
 use Rattle.plan.specs.Refusals.{AreCodes}
 use Rattle.plan.specs.Schemes.{Scheme, IsScheme, degree, modulus, positions, residue, start, word}
 
--- r is the remainder of the message by modulus i: message = quotient · modulus + r, and r is of lower degree than the modulus.
+-- r is the remainder of the message by modulus i: message = quotient · modulus + r, and r is of lower degree
+-- than the modulus.
 abbrev pub RemainderAt : Scheme → List ℕ → ℕ → (ℕ → ℕ) → Type 0
 RemainderAt s message i r = IsRemainder s.arithmetic (degree s i) (coefficients (modulus s i)) (coefficients message) r
 
--- Position i of the message's word: as many codes as its modulus has degree, which are that remainder, the only one there is; and the
--- word has them from the start of the position on.
+-- Position i of the message's word: as many codes as its modulus has degree, which are that remainder, the
+-- only one there is; and the word has them from the start of the position on.
 pub record HoldsRemainder (s : Scheme) (message : List ℕ) (i : ℕ) : Type 0 where
   pub long : length (residue s message i) ≡ degree s i
   pub is : RemainderAt s message i (coefficients (residue s message i))

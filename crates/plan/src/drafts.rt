@@ -1,4 +1,5 @@
-//! What is handed in to make a plan of: k and moduli whose numbers are in range, before the moduli themselves are looked at.
+//! What is handed in to make a plan of: k and moduli whose numbers are in range, before the moduli themselves
+//! are looked at.
 ghost use Rattle.std.specs.Prelude.{◌<◌, ◌≤◌, length};
 ghost use Rattle.plan.specs.Limits.{fewest_positions, most_positions};
 

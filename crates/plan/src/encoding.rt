@@ -14,8 +14,8 @@ use field::Field;
 use poly::reduce;
 
 impl<F: Field> Plan<F> {
-    /// Fills the buffer with the word of the message: at each position the remainder by its modulus. A refusal leaves the
-    /// buffer as it was.
+    /// Fills the buffer with the word of the message: at each position the remainder by its modulus. A
+    /// refusal leaves the buffer as it was.
     pub fn encode(&self, message: &[u16], buffer: &mut [u16]) -> Result<(), EncodeFault>
         ensures answer { Encoded (scheme self.now) message.now buffer.old buffer.new result }
         ensures remainders { is_ok result ≡ true → HoldsRemainders (scheme self.now) message.now buffer.new }
@@ -33,8 +33,8 @@ impl<F: Field> Plan<F> {
         Ok(())
     }
 
-    /// What position i holds in the word of the message, the remainder by its modulus, in a table that has zeros after it; all zeros
-    /// past the positions. A table, for nothing is allocated.
+    /// What position i holds in the word of the message, the remainder by its modulus, in a table that has
+    /// zeros after it; all zeros past the positions. A table, for nothing is allocated.
     pub fn residue(&self, i: usize, message: &[u16]) -> [u16; MODULUS_CODES]
         ensures { result ≡ table_of modulus_codes 0 (residue (scheme self.now) message.now i) }
     {
@@ -51,7 +51,6 @@ impl<F: Field> Plan<F> {
         requires { length buffer.old ≡ word_length (scheme self.now) }
         ensures { buffer.new ≡ word (scheme self.now) message.now }
     {
-        // By position: its modulus, its start and its end go by its number.
         for i in 0..self.positions() {
             let from = self.start(i);
             let end = self.start(i + 1);

@@ -76,8 +76,6 @@ impl<'a> Draft<'a> {
     {
         let mut starts = [0; STARTS_TABLE];
         let mut end = 0usize;
-        // By place, in one pass: of a table that iter_mut lends to an adapter only the length is known afterwards, and by `from_fn` each
-        // start would be summed anew.
         for (i, modulus) in self.moduli.iter().enumerate() {
             end += degree_or_zero(modulus);
             starts[i + 1] = end;
@@ -91,7 +89,7 @@ impl<'a> Draft<'a> {
         ensures { MatchOption result ((i j : ℕ) → i < j → j < length self.now.moduli.now → Clash (drafted F.Field.arithmetic self.now) i j → ⊥) (λ p. FirstClash (drafted F.Field.arithmetic self.now) p.0 p.1) }
     {
         let mut clash = None;
-        // By place, and left at the first: a search within a search would hide that the pairs are taken row by row.
+        // Pair by pair, row by row, and left at the first.
         'pairs: for i in 0..self.moduli.len() {
             for j in i + 1..self.moduli.len() {
                 if !coprime::<F>(&self.moduli[i], &self.moduli[j]) {

@@ -8,9 +8,9 @@ use field::Field;
 use std::alloc::AllocError;
 use std::marker::PhantomData;
 
-/// An accepted choice of field, k and moduli, lawful in every plan that exists. It never changes. The tables are of fixed size,
-/// for nothing is allocated; of the moduli the first `positions` count. The starts have a table of their own, since they are one
-/// more than the moduli: the last is where a word ends.
+/// An accepted choice of field, k and moduli, lawful in every plan that exists. It never changes. The tables
+/// are of fixed size, for nothing is allocated; of the moduli the first `positions` count. The starts have a
+/// table of their own, since they are one more than the moduli: the last is where a word ends.
 pub struct Plan<F: Field> {
     pub(crate) field: PhantomData<F>,
     pub(crate) carriers: usize,
@@ -22,7 +22,6 @@ pub struct Plan<F: Field> {
     ghost lawful: { IsScheme (kept F.Field.arithmetic carriers positions moduli) },
 }
 
-// By hand: `derive_where` makes no `Clone` over ghost fields.
 impl<F: Field> Clone for Plan<F> {
     ghost is_clone = { λ plan copy. copy ≡ plan };
 

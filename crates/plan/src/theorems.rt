@@ -2,7 +2,8 @@
 ghost use Rattle.plan.specs.Accounts.{MarginsApart, MisfitIsWrong, OneWithin, OwnWordWithin};
 ghost use Rattle.plan.specs.Words.{WordHoldsRemainders};
 
-/// Position by position, a word holds the one remainder of its message by the modulus: message = quotient · modulus + remainder.
+/// Position by position, a word holds the one remainder of its message by the modulus: message = quotient ·
+/// modulus + remainder.
 pub fn word_holds_remainders()
     ensures { WordHoldsRemainders }
 {}

@@ -1,11 +1,13 @@
--- Euclid's extended algorithm on M and Y: what two remainders that follow one another, and the factors of Y in them, keep.
+-- Euclid's extended algorithm on M and Y: what two remainders that follow one another, and the factors of Y
+-- in them, keep.
 use Rattle.std.specs.Prelude.{◌≡◌, ℕ, zero, suc, ◌+◌, ◌<◌}
 use Rattle.algebra.specs.Field.{Arithmetic}
 use Rattle.algebra.specs.Polynomial.{Below, HasDegree, IsPolynomial, Divides, add, subtract, multiply, coefficients}
 use Rattle.poly.specs.declared.steps.Euclid.{Euclid}
 use Rattle.poly.specs.Slices.{Codes, Divided, capacity}
 
--- M has degree D. Both remainders are combinations s·M + t·Y; deg t + deg previous = D; and what divides both divides M and Y.
+-- M has degree D. Both remainders are combinations s·M + t·Y; deg t + deg previous = D; and what divides both
+-- divides M and Y.
 pub record Extended (f : Arithmetic) (D : ℕ) (M Y previous current t_previous t : ℕ → ℕ) : Type 0 where
   pub M_polynomial : IsPolynomial f M
   pub Y_polynomial : IsPolynomial f Y

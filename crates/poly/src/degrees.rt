@@ -21,8 +21,7 @@ pub fn significant(p: &[u16]) -> usize
     }
 }
 
-/// The place of the last code other than 0; -1 where there is none. A signed number and no option, as a division answers two of them
-/// and their users compare and add them.
+/// The place of the last code other than 0; -1 where there is none.
 pub fn degree(p: &[u16]) -> i32
     requires { length p.now ≤ longest }
     ensures { DegreeIs (coefficients p.now) result }

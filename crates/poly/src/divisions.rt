@@ -7,8 +7,8 @@ use crate::degrees::{degree, significant};
 use crate::sums::add_scaled;
 use field::Field;
 
-/// Long division by a divisor that ends in its leading code, into a quotient of zeros: from the highest power down, each
-/// code of the quotient clears one code of the remainder.
+/// Long division by a divisor that ends in its leading code, into a quotient of zeros: from the highest power
+/// down, each code of the quotient clears one code of the remainder.
 fn divide_long<F: Field>(remainder: &mut [u16], divisor: &[u16], quotient: &mut [u16])
     requires remainder_fits { length remainder.old ≤ length quotient.old }
     requires divisor_least { 1 ≤ length divisor.now }
@@ -20,7 +20,7 @@ fn divide_long<F: Field>(remainder: &mut [u16], divisor: &[u16], quotient: &mut 
 {
     let top = divisor.len() - 1;
     let inverse = F::inverse(divisor[top]);
-    // By place: a turn reads one buffer at one place, writes another at a second, and then changes the first.
+    // A turn reads one buffer at one place, writes another at a second, and then changes the first.
     for shift in (0..remainder.len().saturating_sub(top)).rev() {
         let factor = F::product(remainder[top + shift], inverse);
         quotient[shift] = factor;
@@ -28,8 +28,9 @@ fn divide_long<F: Field>(remainder: &mut [u16], divisor: &[u16], quotient: &mut 
     }
 }
 
-/// Divides what `remainder` holds: it holds the remainder afterwards, and `quotient` is written whole. Answers the degrees
-/// of quotient and remainder, -1 for zero as everywhere. By zero the quotient is zero and the dividend stays as the remainder.
+/// Divides what `remainder` holds: it holds the remainder afterwards, and `quotient` is written whole.
+/// Answers the degrees of quotient and remainder, -1 for zero as everywhere. By zero the quotient is zero and
+/// the dividend stays as the remainder.
 pub fn divide<F: Field>(remainder: &mut [u16], divisor: &[u16], quotient: &mut [u16]) -> (i32, i32)
     requires remainder_fits { length remainder.old ≤ length quotient.old }
     requires divisor_short { length divisor.now ≤ longest }

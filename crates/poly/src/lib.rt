@@ -1,6 +1,7 @@
-//! Polynomials on slices of codes, lowest power first, over any field: inner work, so each function asks for codes of the
-//! field and for buffers that fit. Nothing is allocated. Slices and no type of their own: they are parts of what callers
-//! hold, whole buffers too are handed on in parts, and a type would ask at each call, where it is made, for the same codes.
+//! Polynomials on slices of codes, lowest power first, over any field: inner work, so each function asks for
+//! codes of the field and for buffers that fit. Nothing is allocated. Slices and no type of their own: they
+//! are parts of what callers hold, whole buffers too are handed on in parts, and a type would ask at each
+//! call, where it is made, for the same codes.
 #![tactic(auto)]
 
 mod degrees;

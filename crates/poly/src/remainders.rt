@@ -7,7 +7,8 @@ ghost use Rattle.poly.specs.Slices.{Codes};
 use field::Field;
 use std::mem;
 
-/// `code + z·residue` less the multiple of the modulus that clears its highest coefficient, in the place of the residue.
+/// `code + z·residue` less the multiple of the modulus that clears its highest coefficient, in the place of
+/// the residue.
 fn shift_in<F: Field>(residue: &mut [u16], modulus: &[u16], code: u16)
     requires least { 1 ≤ length residue.old }
     requires fits { length residue.old < length modulus.now }
@@ -15,16 +16,15 @@ fn shift_in<F: Field>(residue: &mut [u16], modulus: &[u16], code: u16)
 {
     let top = residue[residue.len() - 1];
     let mut lower = code;
-    // By place: of a slice that iter_mut lends to zip a proof knows only the length afterwards.
     for (i, factor) in modulus[..residue.len()].iter().enumerate() {
         let cleared = F::sum(lower, F::negative(F::product(top, *factor)));
         lower = mem::replace(&mut residue[i], cleared);
     }
 }
 
-/// The remainder of `p` by a modulus of degree d with leading code 1: the modulus has d + 1 codes and the residue d. The
-/// codes of `p` go in from the highest down. Of numbers that are no codes, or another leading code, it is what the same
-/// operations give.
+/// The remainder of `p` by a modulus of degree d with leading code 1: the modulus has d + 1 codes and the
+/// residue d. The codes of `p` go in from the highest down. Of numbers that are no codes, or another leading
+/// code, it is what the same operations give.
 pub fn reduce<F: Field>(p: &[u16], modulus: &[u16], residue: &mut [u16])
     requires least { 1 ≤ length residue.old }
     requires fits { length modulus.now ≡ length residue.old + 1 }

@@ -12,9 +12,7 @@ use crate::divisors::{CAPACITY, loaded};
 use crate::products::subtract_product;
 use field::Field;
 
-/// Two remainders that follow one another, and the factors of the second polynomial in them. No ghost field keeps what a run
-/// keeps: `start` takes any numbers, and the facts are of the two polynomials begun with, which are not held here. Four buffers and no pairs:
-/// a division takes the remainders alone, and a product the factors.
+/// Two remainders that follow one another, and the factors of the second polynomial in them.
 #[derive(Clone, Copy)]
 pub struct Euclid {
     pub previous: [u16; CAPACITY],
@@ -42,8 +40,8 @@ impl Euclid {
         }
     }
 
-    /// One division: the remainder becomes the current one, and its factor `t_previous - quotient·t_current`. Answers how many codes
-    /// of that remainder are significant.
+    /// One division: the remainder becomes the current one, and its factor `t_previous - quotient·t_current`.
+    /// Answers how many codes of that remainder are significant.
     pub fn step<F: Field>(&mut self) -> usize
         requires { Running F.Field.arithmetic self.old }
         ensures stepped { Stepped F.Field.arithmetic self.old self.new }

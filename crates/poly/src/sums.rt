@@ -6,8 +6,8 @@ ghost use Rattle.poly.specs.Slices.{Codes};
 
 use field::Field;
 
-/// `p + factor·z^shift·r`, in the place of `p`. A factor of 0 costs nothing, so a division costs as many operations as its
-/// quotient and divisor have codes, however long the buffers are.
+/// `p + factor·z^shift·r`, in the place of `p`. A factor of 0 costs nothing, so a division costs as many
+/// operations as its quotient and divisor have codes, however long the buffers are.
 pub fn add_scaled<F: Field>(p: &mut [u16], factor: u16, shift: usize, r: &[u16])
     requires fits { shift + length r.now ≤ length p.old }
     requires factor_code { factor < F.Field.arithmetic.order }
@@ -19,7 +19,6 @@ pub fn add_scaled<F: Field>(p: &mut [u16], factor: u16, shift: usize, r: &[u16])
     if factor == 0 {
         return;
     }
-    // By place: of a slice that iter_mut lends to zip a proof knows only the length afterwards.
     for (i, code) in r.iter().enumerate() {
         p[shift + i] = F::sum(p[shift + i], F::product(factor, *code));
     }

@@ -1,5 +1,6 @@
 -- Inner: no public contract cites this.
--- The checks of a call, in the parts in which the rack makes them. Of a ledger, the grounds 10 to 14 need only who holds the slot.
+-- The checks of a call, in the parts in which the rack makes them. Of a ledger, the grounds 10 to 14 need
+-- only who holds the slot.
 use Rattle.std.specs.Prelude.{ℕ, not, List, [], Some, None, Ok, Err, Option, Result, ◌==◌, slice_index_or}
 use Rattle.plan.specs.Schemes.{Scheme, degree, message_length}
 use Rattle.rack.specs.Channels.{channel_number, channel_numbered}

@@ -29,8 +29,9 @@ Stands closed channel i residue = ⊥
 Stands (open_for owner account) channel i residue = (owner ≡ channel) × (account i ≡ Some residue)
 
 module _ (s : Scheme) (S : ℕ) where
-  -- One of the calls put the residue at position i of the slot: it was this channel's, the ledger passed it, and ever since the slot has
-  -- been open for the channel with the residue there. `take n later` are the first n calls after it.
+  -- One of the calls put the residue at position i of the slot: it was this channel's, the ledger passed it,
+  -- and ever since the slot has been open for the channel with the residue there. `take n later` are the
+  -- first n calls after it.
   pub record PutBy (calls : List Request) (slot : ℕ) (channel : Channel) (i : ℕ) (residue : List ℕ) : Type 0 where
     pub earlier : List Request
     pub later : List Request
@@ -40,7 +41,8 @@ module _ (s : Scheme) (S : ℕ) where
         (n : ℕ)
         → Stands (after s S blank (earlier ++ (puts (channel_number channel) slot i residue ∷ take n later)) slot) channel i residue
 
--- Every residue in the account of an open slot was put there by the channel that has the slot; none is the other channel's.
+-- Every residue in the account of an open slot was put there by the channel that has the slot; none is the
+-- other channel's.
 abbrev pub OwnResidues : Type 0
 OwnResidues =
     (s : Scheme) (S : ℕ) (calls : List Request) (slot : ℕ) (channel : Channel) (i : ℕ) (residue : List ℕ)

@@ -1,5 +1,5 @@
--- The ledger: what calls make of each slot, by the plan, S and what each call is given alone. It sees no answer, no record and
--- no cell.
+-- The ledger: what calls make of each slot, by the plan, S and what each call is given alone. It sees no
+-- answer, no record and no cell.
 use Rattle.std.specs.Prelude.{ℕ, suc, Bool, cond, not, List, [], ◌∷◌, length, is_some, Some, None, fold, Option, ◌==◌, nat_le, nat_lt}
 use Rattle.std.specs.Option.{option_map}
 use Rattle.plan.specs.Accounts.{Account}
@@ -10,7 +10,8 @@ use Rattle.rack.specs.declared.faults.RackFault.{RackFault}
 use Rattle.rack.specs.declared.faults.RackFault.TheVariants.{NoChannel, Slot}
 use Rattle.rack.specs.declared.faults.SlotFault.TheVariants.{Closed, NoCode, NoPosition, NoSlot, OpenAlready, OtherChannel, WrongLength}
 
--- What a call is given: the numbers of a channel, a slot and a position, and a residue, a message or a buffer of any length.
+-- What a call is given: the numbers of a channel, a slot and a position, and a residue, a message or a buffer
+-- of any length.
 pub data Request : Type 0 where
   opens : (channel slot : ℕ) → Request
   puts : (channel slot position : ℕ) (residue : List ℕ) → Request
@@ -89,7 +90,8 @@ abbrev pub no_code : Scheme → ℕ → List ℕ → Option RackFault
 no_code s slot codes = code_fault slot (first_beyond s.arithmetic.order codes)
 
 module _ (s : Scheme) (S : ℕ) where
-  -- The first of the grounds 10 to 17 that a call meets: those that concern it, in rising order. A call that meets none of them passes.
+  -- The first of the grounds 10 to 17 that a call meets: those that concern it, in rising order. A call that
+  -- meets none of them passes.
   abbrev pub judge : Ledger → Request → Option RackFault
   judge l (opens channel slot) = first_met (no_channel channel ∷ no_slot S slot ∷ open_already slot (l slot) ∷ [])
   judge l (puts channel slot position residue) =

@@ -5,8 +5,8 @@ use Rattle.rack.specs.Ledger.{blank}
 use Rattle.rack.specs.Limits.{most_slots}
 use Rattle.rack.specs.States.{Agrees, Fits, IsRack, State, closed_record}
 
--- A rack made of a plan, a number of slots and a memory with these cells: it holds just them, and the record of a closed slot for
--- every slot that a rack can have. So it agrees with the blank ledger.
+-- A rack made of a plan, a number of slots and a memory with these cells: it holds just them, and the record
+-- of a closed slot for every slot that a rack can have. So it agrees with the blank ledger.
 pub record Made (s : Scheme) (S : ℕ) (cells : List ℕ) (top : ℕ) (r : State) : Type 0 where
   pub fits : Fits s S cells top
   pub scheme_is : r.scheme ≡ s

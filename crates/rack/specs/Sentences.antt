@@ -1,4 +1,5 @@
--- What is said of a rack that is not made and of a call that is refused, in a sentence without its full stop; places are counted from 0.
+-- What is said of a rack that is not made and of a call that is refused, in a sentence without its full stop;
+-- places are counted from 0.
 use Rattle.std.specs.Prelude.{ℕ, List, ◌++◌, codes, decimal}
 use Rattle.reader.specs.Sentences.{reader_sentence}
 use Rattle.rack.specs.declared.faults.RackFault.{RackFault}

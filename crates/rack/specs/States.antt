@@ -65,7 +65,8 @@ with_record r slot entry =
 abbrev pub with_cells : State → List ℕ → State
 with_cells r cells = record { scheme = r.scheme; slots = r.slots; records = r.records; cells = cells; top = r.top }
 
--- The numbers from place `at` on become the codes, and the others stay; used only where there is a number for each code.
+-- The numbers from place `at` on become the codes, and the others stay; used only where there is a number for
+-- each code.
 abbrev pub overwritten : List ℕ → ℕ → List ℕ → List ℕ
 overwritten cells at codes = take at cells ++ (codes ++ drop (at + length codes) cells)
 
@@ -73,7 +74,8 @@ overwritten cells at codes = take at cells ++ (codes ++ drop (at + length codes)
 abbrev pub marked : SlotRecord → ℕ → Bool → SlotRecord
 marked entry position mark = record { owner = entry.owner; present = slice_set entry.present position mark }
 
--- What a call that meets none of the grounds 10 to 17 makes of the rack. What is present in a closed slot stays noted, and counts for nothing.
+-- What a call that meets none of the grounds 10 to 17 makes of the rack. What is present in a closed slot
+-- stays noted, and counts for nothing.
 abbrev pub rack_changed : State → Request → State
 rack_changed r (opens channel slot) =
     with_record r slot (record { owner = Some (channel_numbered channel); present = replicate most_positions false })
@@ -102,8 +104,9 @@ pub record IsRack (r : State) : Type 0 where
   pub table : length r.records ≡ most_slots
   pub marks : (slot : ℕ) → slot < r.slots → length (record_at r slot).present ≡ most_positions
 
--- A call on a rack: the answer by what the records and cells show, what the rack is afterwards, that it stays a rack, and that a
--- ledger which agreed with it before the call agrees with it again once the call is written there, and gives the same answer.
+-- A call on a rack: the answer by what the records and cells show, what the rack is afterwards, that it stays
+-- a rack, and that a ledger which agreed with it before the call agrees with it again once the call is
+-- written there, and gives the same answer.
 pub record Performs (r : State) (request : Request) (outcome : Outcome) (r' : State) (given : Request) : Type 0 where
   pub told : Told r.scheme r.slots (shown r) request outcome given
   pub left : r' ≡ state_after r request

@@ -4,8 +4,8 @@ use Rattle.std.specs.Prelude.{◌≡◌, ℕ, ◌+◌, ◌<◌, ◌≤◌, List,
 use Rattle.plan.specs.Limits.{most_total}
 use Rattle.rack.specs.States.{overwritten}
 
--- Neither the top nor the number of cells changes. Where there is a cell for each code, and each code is within the top,
--- the cells from `at` on hold the codes, and the others are as they were.
+-- Neither the top nor the number of cells changes. Where there is a cell for each code, and each code is
+-- within the top, the cells from `at` on hold the codes, and the others are as they were.
 pub record Stored (cells : List ℕ) (top at : ℕ) (codes cells' : List ℕ) (top' : ℕ) : Type 0 where
   pub kept : top' ≡ top
   pub long : length cells' ≡ length cells

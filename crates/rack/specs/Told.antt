@@ -21,8 +21,8 @@ module _ (s : Scheme) where
   abbrev pub found_for : Account → List ℕ → Found
   found_for account message = record { margin = margin s account message; wrong = wrong s account message }
 
-  -- A reading of an account. Accepted: the buffer then holds the message within the allowance, and margin and e are that
-  -- message's. Refused: the buffer is as it was, and the account says why there is no message.
+  -- A reading of an account. Accepted: the buffer then holds the message within the allowance, and margin and
+  -- e are that message's. Refused: the buffer is as it was, and the account says why there is no message.
   abbrev pub ReadAs : Account → (slot : ℕ) → (before buffer : List ℕ) → Outcome → Type 0
   ReadAs account slot before buffer (Ok (Message found)) =
       Within s account buffer × (found.margin ≡ margin s account buffer) × (found.wrong ≡ wrong s account buffer)
@@ -42,8 +42,9 @@ module _ (s : Scheme) where
       (outcome ≡ Ok (Margin (margin s (account_in (l slot)) message))) × (given ≡ measures channel slot message)
   Passed l (closes channel slot) outcome given = (outcome ≡ Ok Done) × (given ≡ closes channel slot)
 
-  -- A call on a rack of S slots: refused by the first of the grounds 10 to 17 that the ledger finds, what it was given being as it was;
-  -- else answered by the ledger's account, by which a read may still be refused on ground 18 or 19.
+  -- A call on a rack of S slots: refused by the first of the grounds 10 to 17 that the ledger finds, what it
+  -- was given being as it was; else answered by the ledger's account, by which a read may still be refused on
+  -- ground 18 or 19.
   pub record Told (S : ℕ) (l : Ledger) (request : Request) (outcome : Outcome) (given : Request) : Type 0 where
     pub refused : (fault : RackFault) → judge s S l request ≡ Some fault → (outcome ≡ Err fault) × (given ≡ request)
     pub passed : judge s S l request ≡ None → Passed l request outcome given

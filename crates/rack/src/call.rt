@@ -1,7 +1,7 @@
 //! A call as a value, so that lists of calls can be written down, and what a call is answered.
 
-/// One of the six calls, with what it is given. Residues, messages and buffers may have any length; a buffer is the call's own. Each case
-/// names its channel and its slot, as a call is written down.
+/// One of the six calls, with what it is given. Residues, messages and buffers may have any length; a buffer
+/// is the call's own. Each case names its channel and its slot, as a call is written down.
 #[derive(Drop)]
 pub enum Call {
     /// The slot becomes the channel's.
@@ -41,8 +41,8 @@ pub enum Call {
     },
 }
 
-/// What an accepted read says of the message that it gives: its margin, and e, the degrees of the present positions whose
-/// residue differs from the message's.
+/// What an accepted read says of the message that it gives: its margin, and e, the degrees of the present
+/// positions whose residue differs from the message's.
 #[derive(Clone, Copy, PartialEq, Eq, Debug)]
 pub struct Found {
     pub margin: i32,

@@ -1,7 +1,7 @@
 //! The six calls. Each checks what it is given first, and changes one record at most.
 //!
-//! A call is named with its channel and its slot as plain numbers. Any two may come, and each has a check of its own, so a struct
-//! of them would be taken apart at once.
+//! A call is named with its channel and its slot as plain numbers. Any two may come, and each has a check of
+//! its own, so a struct of them would be taken apart at once.
 ghost use Rattle.std.specs.Prelude.{◌≡◌, ◌<◌};
 ghost use Rattle.memory.specs.Meaning.{Sets};
 ghost use Rattle.plan.specs.Held.{scheme};
@@ -58,7 +58,8 @@ impl<F: Field, M: Memory> Rack<F, M> {
         Ok(())
     }
 
-    /// Fills the buffer with the message within the allowance of what the slot's record and cells say, and answers its margin and e.
+    /// Fills the buffer with the message within the allowance of what the slot's record and cells say, and
+    /// answers its margin and e.
     pub fn read(&self, channel: usize, slot: usize, buffer: &mut [u16]) -> Result<Found, RackFault>
         ensures { CallOn self.now (reads channel slot buffer.old) (found result) self.now (reads channel slot buffer.new) }
     {
@@ -98,8 +99,8 @@ impl<F: Field, M: Memory> Rack<F, M> {
         Ok(())
     }
 
-    /// Overwrites a cell as a fault in the memory would, for damage in tests and demonstrations: no call, and no record learns of it.
-    /// Refused exactly when the memory refuses.
+    /// Overwrites a cell as a fault in the memory would, for damage in tests and demonstrations: no call, and
+    /// no record learns of it. Refused exactly when the memory refuses.
     pub fn overwrite_cell(&mut self, cell: usize, value: u16) -> bool
         ensures sets { Sets (M.Memory.cells self.old.memory) (M.Memory.top self.old.memory) cell value result (M.Memory.cells self.new.memory) (M.Memory.top self.new.memory) }
         ensures slots { self.new.slots ≡ self.old.slots }
@@ -117,8 +118,8 @@ impl<F: Field, M: Memory> Rack<F, M> {
         load(&self.memory, slot * count, count)
     }
 
-    // What the reader makes of the slot. What has arrived is put together here and in `measure`: it lends the slot's word, which lives
-    // no longer than either.
+    // What the reader makes of the slot. What has arrived is put together here and in `measure`: it lends the
+    // slot's word, which lives no longer than either.
     fn read_slot(&self, slot: usize) -> Result<Reading, SlotFault>
         requires { slot < self.now.slots.count }
         ensures { SlotRead (scheme self.now.plan) (account_of (state self.now) slot) result }

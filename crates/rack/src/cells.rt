@@ -7,7 +7,8 @@ ghost use Rattle.rack.specs.Stored.{Loaded, Stored};
 use memory::Memory;
 use plan::MOST_TOTAL;
 
-/// Sets the cells from `at` on to the codes. A memory that a rack fits takes every one of them, so no answer is looked at.
+/// Sets the cells from `at` on to the codes. A memory that a rack fits takes every one of them, so no answer
+/// is looked at.
 pub(crate) fn store<M: Memory>(memory: &mut M, at: usize, codes: &[u16])
     requires { at + length codes.now ≤ max_cells }
     ensures { Stored (M.cells memory.old) (M.top memory.old) at codes.now (M.cells memory.new) (M.top memory.new) }
@@ -24,9 +25,7 @@ fn cell<M: Memory>(memory: &M, j: usize) -> u16
     memory.get(j).unwrap_or(0)
 }
 
-/// The `count` cells from `at` on, in a table that has zeros after them, and where there is no cell. It is filled by
-/// place: once an adapter of `iter_mut` is done nothing is known of the table, and `array::from_fn` wants a closure
-/// with a `requires` and a branch for the zeros.
+/// The `count` cells from `at` on, in a table that has zeros after them, and where there is no cell.
 pub(crate) fn load<M: Memory>(memory: &M, at: usize, count: usize) -> [u16; MOST_TOTAL]
     requires place { at + count ≤ max_cells }
     requires few { count ≤ most_total }

@@ -1,5 +1,5 @@
-//! Whether a channel may open or use a slot, and whether what a call is given fits the plan. A check takes the slot to name it in its fault,
-//! which each call would else have to add behind each check.
+//! Whether a channel may open or use a slot, and whether what a call is given fits the plan. A check takes
+//! the slot to name it in its fault, which each call would else have to add behind each check.
 ghost use Rattle.std.specs.Prelude.{◌≡◌, ◌≤◌};
 ghost use Rattle.plan.specs.Held.{scheme};
 ghost use Rattle.rack.specs.Channels.{channel_numbered};
@@ -78,7 +78,6 @@ pub(crate) fn check_length(slot: usize, right: usize, codes: &[u16]) -> Result<(
 fn check_codes<F: Field>(slot: usize, codes: &[u16]) -> Result<(), RackFault>
     ensures { result ≡ settled (code_fault slot (first_beyond F.Field.arithmetic.order codes.now)) }
 {
-    // By match: `map_or(Ok(()), ..)` leaves a goal open and is no shorter.
     match first_no_code::<F>(codes) {
         Some(index) => Err(RackFault::Slot(slot, SlotFault::NoCode(index))),
         None => Ok(()),

@@ -8,7 +8,8 @@ use field::Field;
 use memory::Memory;
 
 impl<F: Field, M: Memory> Rack<F, M> {
-    /// Performs the call, whichever of the six it is. A read fills the call's own buffer; nothing else of the call changes.
+    /// Performs the call, whichever of the six it is. A read fills the call's own buffer; nothing else of the
+    /// call changes.
     pub fn perform(&mut self, call: &mut Call) -> Result<Answer, RackFault>
         ensures { CallOn self.old (given_by call.old) result self.new (given_by call.new) }
     {

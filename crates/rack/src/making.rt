@@ -23,7 +23,8 @@ fn fits<F: Field, M: Memory>(plan: &Plan<F>, memory: &M, slots: usize) -> bool
 }
 
 impl<F: Field, M: Memory> Rack<F, M> {
-    /// A rack of so many slots, all closed. The memory must have a cell for each code of each slot, wide enough for every code.
+    /// A rack of so many slots, all closed. The memory must have a cell for each code of each slot, wide
+    /// enough for every code.
     pub fn new(plan: Plan<F>, memory: M, slots: usize) -> Result<Rack<F, M>, Returned<M, FitFault>>
         ensures { MatchResult result (λ rack. Made (scheme plan) slots (M.Memory.cells memory) (M.Memory.top memory) (state rack) × (rack.memory ≡ memory) × (rack.plan ≡ plan)) (λ no. (Fits (scheme plan) slots (M.Memory.cells memory) (M.Memory.top memory) → ⊥) × (no.memory ≡ memory)) }
     {

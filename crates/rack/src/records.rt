@@ -14,8 +14,8 @@ pub struct SlotRecord {
     pub(crate) present: [bool; MOST_POSITIONS],
 }
 
-/// The table of slot records, of which the first `count` are in use. A table of fixed size, for nothing is allocated; a call is
-/// lent one record of it.
+/// The table of slot records, of which the first `count` are in use. A table of fixed size, for nothing is
+/// allocated; a call is lent one record of it.
 #[derive(Clone, Copy)]
 pub struct Slots {
     pub(crate) count: usize,

@@ -14,7 +14,8 @@ const WORD: [u16; 7] = [1, 0, 1, 1, 1, 1, 0];
 // z and z + 1.
 const TWO_OVER_CLOCK: [u16; 18] = [0, 1, 0, 0, 0, 0, 0, 0, 0, 1, 1, 0, 0, 0, 0, 0, 0, 0];
 
-// What makes a rack is generic in its memory: where the type of a lent buffer is named, the borrow checker does not cover it.
+// What makes a rack is generic in its memory: where the type of a lent buffer is named, the borrow checker
+// does not cover it.
 fn rack_over<M: Memory + Drop>(memory: M, slots: usize) -> Result<Rack<Bits, M>, Fail> {
     let plan = Plan::<Bits>::new(2, &FOUR_OVER_BITS)?;
     Rack::new(plan, memory, slots).map_err(|_| Fail::new("no rack"))

@@ -1,5 +1,5 @@
-//! Nothing but tests, of the rack and of lists of calls. They need crates above the rack, and stand apart from these since a crate
-//! with tests is proved twice.
+//! Nothing but tests, of the rack and of lists of calls. They need crates above the rack, and stand apart
+//! from these since a crate with tests is proved twice.
 #![tactic(auto)]
 
 #[cfg(test)]

@@ -1,4 +1,5 @@
--- What a reader answers: the one message within the allowance of an account, with its margin and e; or why there is none.
+-- What a reader answers: the one message within the allowance of an account, with its margin and e; or why
+-- there is none.
 use Rattle.std.specs.Prelude.{◌≡◌, ℕ, ◌-◌, ◌<◌, ◌≤◌, List, take, Ok, Err, Result}
 use Rattle.fault.specs.declared.Ground.{Ground}
 use Rattle.fault.specs.declared.Layer.TheVariants as layer

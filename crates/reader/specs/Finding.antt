@@ -1,6 +1,6 @@
 -- Inner: no public contract cites this.
--- The search for a message in what is joined: where Euclid's extended algorithm is stopped, r = t·a for every message a within
--- reach, so that the quotient of r by t is the only candidate.
+-- The search for a message in what is joined: where Euclid's extended algorithm is stopped, r = t·a for every
+-- message a within reach, so that the quotient of r by t is the only candidate.
 use Rattle.std.specs.Prelude.{◌≡◌, ℕ, List, Some, None, Option}
 use Rattle.algebra.specs.Field.{Arithmetic}
 use Rattle.algebra.specs.Polynomial.{Below, IsPolynomial, coefficients, multiply}

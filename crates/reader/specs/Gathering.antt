@@ -11,8 +11,8 @@ use Rattle.plan.specs.Schemes.{Scheme, degree, modulus}
 abbrev pub all_below : ℕ → List ℕ → Bool
 all_below q xs = list_all (λ x. nat_lt x q) xs
 
--- A residue can be used at position i if it has as many numbers as the position, and all of them are codes. Any other is wrong
--- for every message.
+-- A residue can be used at position i if it has as many numbers as the position, and all of them are codes.
+-- Any other is wrong for every message.
 abbrev pub is_usable : Scheme → ℕ → List ℕ → Bool
 is_usable s i y = length y == degree s i && all_below s.arithmetic.order y
 
@@ -26,8 +26,8 @@ module _ (s : Scheme) (account : Account) where
   abbrev pub kept : ℕ → Bool
   kept i = is_some (usable s i (account i))
 
-  -- Of the first n positions the kept ones are joined: M is the product of their moduli, D the sum of their degrees, and Y
-  -- leaves their residues.
+  -- Of the first n positions the kept ones are joined: M is the product of their moduli, D the sum of their
+  -- degrees, and Y leaves their residues.
   pub record GatheredTo (n D : ℕ) (M Y : ℕ → ℕ) : Type 0 where
     pub degree_is : D ≡ total (chosen_degrees kept (degree s)) n
     pub product_is : M ≡ product_of s.arithmetic (chosen kept (λ i. coefficients (modulus s i))) n

@@ -12,8 +12,9 @@ use std::fmt;
 /// The codes that a message may have, so the codes of a message's table.
 pub const MESSAGE_TABLE: usize = MOST_TOTAL;
 
-/// The message within the allowance, its margin, and e, the degrees of the present positions whose residue differs from the
-/// message's. The message stands in a table with zeros after its codes, since nothing is allocated.
+/// The message within the allowance, its margin, and e, the degrees of the present positions whose residue
+/// differs from the message's. The message stands in a table with zeros after its codes, since nothing is
+/// allocated.
 #[derive(Clone, Copy, PartialEq, Eq, Debug)]
 pub struct Reading {
     pub(crate) message: [u16; MESSAGE_TABLE],

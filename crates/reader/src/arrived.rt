@@ -8,8 +8,9 @@ use field::Field;
 use plan::{MOST_POSITIONS, Plan};
 use std::array;
 
-/// A plan, and what has arrived of a word under it: position after position a residue, or `None` where it is missing. A position
-/// past the end of the residues is missing too. Any residue may have any length and hold any numbers.
+/// A plan, and what has arrived of a word under it: position after position a residue, or `None` where it is
+/// missing. A position past the end of the residues is missing too. Any residue may have any length and hold
+/// any numbers.
 #[derive_where(Clone, Copy)]
 pub struct Arrived<'a, F: Field> {
     pub plan: &'a Plan<F>,
@@ -33,9 +34,9 @@ fn part_of<'a, F: Field>(plan: &Plan<F>, word: &'a [u16], i: usize) -> &'a [u16]
     &rest[0..plan.degree(i).min(rest.len())]
 }
 
-/// The residues of the positions that are present, `None` for the others. Flags come in, as a slot keeps them, and a table goes out,
-/// for nothing is allocated. Of a word that ends early the last residues are short,
-/// and so wrong for every message.
+/// The residues of the positions that are present, `None` for the others. Flags come in, as a slot keeps
+/// them, and a table goes out, for nothing is allocated. Of a word that ends early the last residues are
+/// short, and so wrong for every message.
 pub fn received<'a, F: Field>(
     plan: &Plan<F>,
     word: &'a [u16],

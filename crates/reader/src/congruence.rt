@@ -1,5 +1,5 @@
-//! A modulus with the residue that is to be left by it, and arithmetic modulo it. What is computed comes in tables of CAPACITY codes, for
-//! nothing is allocated.
+//! A modulus with the residue that is to be left by it, and arithmetic modulo it. What is computed comes in
+//! tables of CAPACITY codes, for nothing is allocated.
 ghost use Rattle.std.specs.Prelude.{◌≤◌, length};
 ghost use Rattle.algebra.specs.Moduli.{Congruent, Coprime, one};
 ghost use Rattle.algebra.specs.Polynomial.{Below, coefficients, multiply};
@@ -32,7 +32,8 @@ impl<'a, F: Field> Congruence<'a, F> {
         remainder
     }
 
-    /// The inverse of `p` modulo the modulus, where they are coprime, by Euclid's extended algorithm; `p` is of lower degree.
+    /// The inverse of `p` modulo the modulus, where they are coprime, by Euclid's extended algorithm; `p` is
+    /// of lower degree.
     pub(crate) fn inverse_of(&self, p: &[u16]) -> [u16; CAPACITY]
         requires fits { length p.now ≤ capacity }
         requires lower { Below (length self.now.residue.now) (coefficients p.now) }

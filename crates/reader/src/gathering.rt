@@ -58,7 +58,6 @@ impl<'a, F: Field> Arrived<'a, F> {
         ensures { GatheredTo (scheme self.now.plan.now) (account_of self.now.residues.now) (positions (scheme self.now.plan.now)) result.degree (coefficients result.product) (coefficients result.value) }
     {
         let mut joined = Joined::start();
-        // No chain: that there is room for the next one follows from what is joined so far.
         for i in 0..self.plan.positions() {
             if let Some(next) = self.congruence(i) {
                 joined.join(&next);

@@ -10,8 +10,8 @@ use field::Field;
 use poly::{CAPACITY, add_to, multiply, subtract_from};
 use std::marker::PhantomData;
 
-/// The product M of the moduli joined so far, its degree, and the polynomial Y of lower degree that leaves their residues. The
-/// tables are of fixed size, since nothing is allocated.
+/// The product M of the moduli joined so far, its degree, and the polynomial Y of lower degree that leaves
+/// their residues. The tables are of fixed size, since nothing is allocated.
 #[derive(Drop)]
 pub(crate) struct Joined<F: Field> {
     field: PhantomData<F>,

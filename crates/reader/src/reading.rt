@@ -9,8 +9,8 @@ use crate::tally::margin_of;
 use field::Field;
 
 impl<'a, F: Field> Arrived<'a, F> {
-    /// The message within the allowance, with its margin and e; or why there is none. It is the only candidate that the usable
-    /// residues leave, and its own margin decides.
+    /// The message within the allowance, with its margin and e; or why there is none. It is the only
+    /// candidate that the usable residues leave, and its own margin decides.
     pub fn read(&self) -> Result<Reading, ReaderFault>
         ensures answer { Answered (scheme self.now.plan.now) (account_of self.now.residues.now) result }
         ensures padded { Padded (scheme self.now.plan.now) result }

@@ -1,5 +1,5 @@
-//! What has arrived for and against a message: the degrees of the missing positions, the degrees of those that the message does
-//! not explain, and the margin.
+//! What has arrived for and against a message: the degrees of the missing positions, the degrees of those
+//! that the message does not explain, and the margin.
 ghost use Rattle.std.specs.Prelude.{◌≡◌, ℕ, ◌+◌, ◌*◌, ◌≤◌, pos, ◌-ℤ◌};
 ghost use Rattle.plan.specs.Accounts.{charge, lost, margin, missing, same, wrong};
 ghost use Rattle.plan.specs.Held.{scheme};
@@ -37,7 +37,8 @@ impl<'a, F: Field> Arrived<'a, F> {
         part == &right[0..self.plan.degree(i)]
     }
 
-    // What position i costs the message: its degree where the residue is present and differs from the message's, else nothing.
+    // What position i costs the message: its degree where the residue is present and differs from the
+    // message's, else nothing.
     fn charge_at(&self, i: usize, message: &[u16]) -> usize
         ensures { result ≡ charge (scheme self.now.plan.now) message.now i (account_of self.now.residues.now i) }
     {

@@ -1,5 +1,6 @@
-//! Compares the library with Reed-Solomon words: under the moduli z − a for distinct points a, a word is the message's values at the
-//! points. An unrelated program made the words, the damaged copies of them, and what a reader should answer to each:
+//! Compares the library with Reed-Solomon words: under the moduli z − a for distinct points a, a word is the
+//! message's values at the points. An unrelated program made the words, the damaged copies of them, and what
+//! a reader should answer to each:
 //!
 //!     python3 tools/reed_solomon.py > crates/reed_solomon/stdin 2> crates/reed_solomon/stdout
 //!

@@ -47,8 +47,8 @@ pub data NumbersAt (s : List ℕ) (i : ℕ) : ℕ → List ℕ → Type 0 where
   none_at : i ≤ length s → NumbersAt s i i []
   one_more_at : {j k n : ℕ} {ns : List ℕ} → NumbersAt s i j ns → NumberAt s j k n → NumbersAt s i k (ns ++ n ∷ [])
 
--- From i on stand numbers, and the next one is wanting at p: fewer than `least` of them and no blank, or fewer than `most` and no digit
--- after the blank.
+-- From i on stand numbers, and the next one is wanting at p: fewer than `least` of them and no blank, or
+-- fewer than `most` and no digit after the blank.
 pub record NumbersLost (least most : ℕ) (s : List ℕ) (i p : ℕ) : Type 0 where
   pub j : ℕ
   pub ns : List ℕ

@@ -1,5 +1,5 @@
--- How a sheet is written: lines that each end in byte 10, in four sections, each after its count on a line of its own: the field, the
--- carrying moduli, the spare moduli and the calls. Nothing follows the last section.
+-- How a sheet is written: lines that each end in byte 10, in four sections, each after its count on a line of
+-- its own: the field, the carrying moduli, the spare moduli and the calls. Nothing follows the last section.
 use Rattle.std.specs.Prelude.{◌≡◌, ℕ, ◌≤◌, List, [], ◌∷◌, ◌++◌, length, codes, decimal}
 use Rattle.expression.specs.Bytes.{blank_byte, line_end}
 use Rattle.expression.specs.Fields.{field_word}
@@ -16,7 +16,8 @@ pub record Content : Type 0 where
   pub spare : List Expression
   pub calls : List Request
 
--- A count on a line of its own, from `least` to `most`; `decimal` writes a number with no leading zero, and zero as `0`.
+-- A count on a line of its own, from `least` to `most`; `decimal` writes a number with no leading zero, and
+-- zero as `0`.
 pub record IsCount (least most : ℕ) (line : List ℕ) (n : ℕ) : Type 0 where
   pub low : least ≤ n
   pub high : n ≤ most
@@ -48,8 +49,8 @@ pub data Numbers : List ℕ → List ℕ → Type 0 where
   no_numbers : Numbers [] []
   number_more : {x rest : List ℕ} {ns : List ℕ} → IsCallNumber x → Numbers rest ns → Numbers (blank_byte ∷ (x ++ rest)) (numeral 0 x ∷ ns)
 
--- A line that holds a call: its name, its numbers and the end of the line. Channel and slot come first, for put and strike then the
--- position; put may carry codes, and so may measure.
+-- A line that holds a call: its name, its numbers and the end of the line. Channel and slot come first, for
+-- put and strike then the position; put may carry codes, and so may measure.
 pub data IsCallLine : List ℕ → Request → Type 0 where
   open_line : {x : List ℕ} {c t : ℕ} → Numbers x (c ∷ t ∷ []) → IsCallLine (codes "open" ++ (x ++ line_end ∷ [])) (opens c t)
   put_line : {x : List ℕ} {c t p : ℕ} {residue : List ℕ} → Numbers x (c ∷ t ∷ p ∷ residue) → length residue ≤ most_put_codes

@@ -15,8 +15,8 @@ most_moduli = 23
 abbrev pub most_calls : ℕ
 most_calls = 99
 
--- The line of the first carrying modulus, lines being counted from 0: before it stand the count and the name of the field,
--- and the count of carrying moduli.
+-- The line of the first carrying modulus, lines being counted from 0: before it stand the count and the name
+-- of the field, and the count of carrying moduli.
 abbrev pub first_modulus_line : ℕ
 first_modulus_line = 3
 

@@ -21,7 +21,8 @@ IsTooLong bytes = longest_sheet < length bytes
 abbrev pub Viable : List ℕ → Type 0
 Viable beginning = (rest : List ℕ) × ((content : Content) × IsSheet (beginning ++ rest) content)
 
--- Ground 2: the bytes are no sheet, and p is the length of their longest beginning that also begins some sheet, of any length.
+-- Ground 2: the bytes are no sheet, and p is the length of their longest beginning that also begins some
+-- sheet, of any length.
 pub record StopsAt (bytes : List ℕ) (p : ℕ) : Type 0 where
   pub no_sheet : (content : Content) → ¬ (IsSheet bytes content)
   pub within : p ≤ length bytes
@@ -60,8 +61,8 @@ pub record LacksValue (bytes : List ℕ) (line : ℕ) : Type 0 where
   pub written : IsSheet bytes content
   pub first : FirstBadLine content line
 
--- A sheet is lawful when it meets none of the grounds 1 to 3: it is no longer than a sheet may be, it is of the grammar,
--- and every modulus has a value. `content` is what it says.
+-- A sheet is lawful when it meets none of the grounds 1 to 3: it is no longer than a sheet may be, it is of
+-- the grammar, and every modulus has a value. `content` is what it says.
 pub record IsLawful (bytes : List ℕ) (content : Content) : Type 0 where
   pub short : length bytes ≤ longest_sheet
   pub written : IsSheet bytes content

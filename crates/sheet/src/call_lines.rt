@@ -61,7 +61,8 @@ fn measure(row: Row, from: Cursor, heading: Heading) -> Result<Parsed<Call>, Sto
     })
 }
 
-/// The numbers of the call of this name. A read's buffer is not written on a sheet: it comes out with no codes, and with the row's room.
+/// The numbers of the call of this name. A read's buffer is not written on a sheet: it comes out with no
+/// codes, and with the row's room.
 fn call_text(row: Row, name: CallName, from: Cursor) -> Result<Parsed<Call>, Stop>
     ensures { Here from.entry (λ s i. TextTold name s i result) }
 {

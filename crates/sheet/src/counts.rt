@@ -15,8 +15,8 @@ fn zero_leads(digits: &[u8]) -> bool
     digits.len() > 1 && digits[0] == b'0'
 }
 
-/// The count on the line that begins here. Since `least` is 0 or 1 and `most` has at most two digits, a first digit begins some count
-/// exactly if it is one itself.
+/// The count on the line that begins here. Since `least` is 0 or 1 and `most` has at most two digits, a first
+/// digit begins some count exactly if it is one itself.
 pub(crate) fn count_line(from: Cursor, counts: Counts) -> Result<Parsed<usize>, Stop>
     ensures { Here from.entry (λ s i. CountTold counts.least counts.most s i result) }
 {

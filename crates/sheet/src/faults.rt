@@ -15,7 +15,8 @@ use std::fmt;
 pub enum SheetFault {
     /// It is longer than any sheet may be.
     TooLong,
-    /// It is not of the grammar: the length of its longest beginning that also begins some sheet of the grammar, of any length.
+    /// It is not of the grammar: the length of its longest beginning that also begins some sheet of the
+    /// grammar, of any length.
     NotASheet(usize),
     /// The first line, counted from 0, whose modulus has no value.
     NoModulus(usize),

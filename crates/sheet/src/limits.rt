@@ -6,7 +6,8 @@ use plan::MODULUS_CODES;
 /// A longer sheet is refused, whatever it holds.
 pub const LONGEST_SHEET: usize = 4096;
 
-/// The counts that a section may begin with. A least count of 0 or 1 and a highest of at most two digits are what counts are read by.
+/// The counts that a section may begin with. A least count of 0 or 1 and a highest of at most two digits are
+/// what counts are read by.
 #[derive(Clone, Copy)]
 pub(crate) struct Counts {
     pub(crate) least: usize,
@@ -46,10 +47,12 @@ const LEAST_CALLS: usize = 0;
 /// A sheet has at most this many calls.
 pub const MOST_CALLS: usize = 99;
 
-/// The line of the first carrying modulus: before it stand the count and the name of the field, and the count of carrying moduli.
+/// The line of the first carrying modulus: before it stand the count and the name of the field, and the count
+/// of carrying moduli.
 pub(crate) const FIRST_MODULUS_LINE: usize = 3;
 
-/// The first spare modulus stands on this line at the latest: between it and the first carrying one stand those and a count.
+/// The first spare modulus stands on this line at the latest: between it and the first carrying one stand
+/// those and a count.
 pub(crate) const LATEST_SECTION_LINE: usize = FIRST_MODULUS_LINE + MOST_MODULI + 1;
 
 /// A number of a call is written with at most this many digits.

@@ -5,8 +5,8 @@ ghost use Rattle.sheet.specs.Sections.{Keeps};
 
 use plan::MODULUS_CODES;
 
-/// The codes of the moduli read so far, and the first line whose modulus has no value. Reading goes on after such a line: what is
-/// wrong with the grammar further down is told first.
+/// The codes of the moduli read so far, and the first line whose modulus has no value. Reading goes on after
+/// such a line: what is wrong with the grammar further down is told first.
 #[derive(Drop)]
 pub(crate) struct Moduli {
     pub(crate) codes: Vec<u16>,

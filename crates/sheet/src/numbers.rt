@@ -16,8 +16,8 @@ pub(crate) struct Heading {
     pub(crate) slot: usize,
 }
 
-/// The digits after the blank here. One more than a number may have is left standing, where neither a blank nor the end of the line can
-/// be.
+/// The digits after the blank here. One more than a number may have is left standing, where neither a blank
+/// nor the end of the line can be.
 fn digits<'a>(from: Cursor<'a>) -> Result<Part<'a>, Stop>
     ensures { Here from.entry (λ s i. DigitsTold s i result) }
 {
@@ -57,8 +57,8 @@ pub(crate) fn channel_and_slot(from: Cursor) -> Result<Parsed<Heading>, Stop>
     })
 }
 
-/// The numbers from here on, as many as there are and at most `most`. Where no blank stands the line may end, so that is no fault here;
-/// after a blank a number has to come.
+/// The numbers from here on, as many as there are and at most `most`. Where no blank stands the line may end,
+/// so that is no fault here; after a blank a number has to come.
 pub(crate) fn code_row(row: Row, from: Cursor, most: usize) -> Result<Parsed<Vec<u16>>, Stop>
     requires { most ≤ most_call_codes }
     ensures { Here from.entry (λ s i. CodesTold s i most result) }

@@ -11,8 +11,8 @@ use crate::sheets::Sheet;
 use expression::{Cursor, FieldName, Parsed, Stop};
 use rack::Call;
 
-/// The sheet that the bytes write; or the first ground on which they write none, with its place. The room is enough for any sheet, so
-/// memory is never wanting.
+/// The sheet that the bytes write; or the first ground on which they write none, with its place. The room is
+/// enough for any sheet, so memory is never wanting.
 pub fn read_sheet(room: Room, bytes: &[u8]) -> Result<Sheet, SheetFault>
     ensures { SheetTold bytes.now result }
 {

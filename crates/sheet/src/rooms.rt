@@ -22,8 +22,8 @@ impl Row {
     }
 }
 
-/// Room for the most that a sheet holds, taken before any sheet is seen, so that reading one never wants memory: for the codes of all
-/// moduli, for the calls, and for the codes of each call.
+/// Room for the most that a sheet holds, taken before any sheet is seen, so that reading one never wants
+/// memory: for the codes of all moduli, for the calls, and for the codes of each call.
 #[derive(Drop)]
 pub struct Room {
     pub(crate) moduli: Vec<u16>,

@@ -25,9 +25,6 @@ pub(crate) fn field_section(from: Cursor) -> Result<Parsed<FieldName>, Stop>
     field_line(from.at(count.end))
 }
 
-// The sections of moduli and of calls stay two functions: a loop for both would take a trait of lines, with what each kind is read by and
-// what it is noted in, which is longer than the two loops.
-
 /// Notes the moduli of the section here, the first of which stands on line `first`; what is read is how many there are.
 pub(crate) fn moduli_section(
     from: Cursor,
@@ -41,7 +38,7 @@ pub(crate) fn moduli_section(
 {
     let count = count_line(from, MODULI)?;
     let mut next = count.end;
-    // By number: a line is named by how many stand before it.
+    // A line is named by how many stand before it.
     for i in 0..count.value {
         let modulus = modulus_line(from.sheet, next, field)?;
         moduli.keep(first + i, modulus.value);

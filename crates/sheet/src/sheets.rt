@@ -2,8 +2,8 @@
 use expression::FieldName;
 use rack::Call;
 
-/// The content of a sheet: the field by its name, k, the codes of all moduli, and the calls. A read's buffer is not written on a sheet: it
-/// comes out with no codes, and with room for those of any message.
+/// The content of a sheet: the field by its name, k, the codes of all moduli, and the calls. A read's buffer
+/// is not written on a sheet: it comes out with no codes, and with room for those of any message.
 #[derive(Drop)]
 pub struct Sheet {
     pub field: FieldName,

@@ -19,7 +19,8 @@ pub fn valued_by_codes()
     ensures { (content : Content) → AllValued content ↔ HasCodes content }
 {}
 
-/// To the same bytes there is one answer: a lawful sheet is not refused, and of two grounds or places one alone is told.
+/// To the same bytes there is one answer: a lawful sheet is not refused, and of two grounds or places one
+/// alone is told.
 pub fn one_answer()
     ensures { OneAnswer }
 {}

@@ -22,7 +22,8 @@ fn common(text: &[u8], word: &[u8]) -> usize
         .count()
 }
 
-/// The word of the table that is written here, with what it stands for. It stops at the furthest place to which one of them goes.
+/// The word of the table that is written here, with what it stands for. It stops at the furthest place to
+/// which one of them goes.
 pub(crate) fn one_of<'a, T: Copy>(
     from: Cursor<'a>,
     table: &[(&[u8], T)],

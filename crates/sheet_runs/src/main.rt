@@ -1,5 +1,5 @@
-//! Runs each sheet of the folder data/, and compares what is printed with the lines beside it, which an unrelated program
-//! (tools/sheet_lines.py) wrote.
+//! Runs each sheet of the folder data/, and compares what is printed with the lines beside it, which an
+//! unrelated program (tools/sheet_lines.py) wrote.
 #![tactic(auto)]
 
 use anyhow::Context;
@@ -34,7 +34,8 @@ fn ground_on(line: &str) -> Option<u8> {
         .ok()
 }
 
-/// Runs one sheet, and says whether it came out as expected, and where it did not, what was expected and what came. Notes the grounds.
+/// Runs one sheet, and says whether it came out as expected, and where it did not, what was expected and what
+/// came. Notes the grounds.
 fn try_sheet(rt: &HostRuntime, name: &str, grounds: &mut BTreeSet<u8>) -> anyhow::Result<()> {
     let sheet = fs::read(rt, format!(in rt.alloc(); "{name}{SHEET}")?)?;
     let expected = fs::read_to_string(rt, format!(in rt.alloc(); "{name}{LINES}")?)?;

@@ -1,4 +1,5 @@
--- The test of a small field: the laws at every code, every pair and every triple of codes, as one truth value that can be computed.
+-- The test of a small field: the laws at every code, every pair and every triple of codes, as one truth value
+-- that can be computed.
 use Rattle.std.specs.Prelude.{ℕ, Bool, Decides, ◌&&◌, ◌||◌, nat_eq, nat_lt, nat_le}
 use Rattle.algebra.specs.Arithmetics.{on_codes_below, reciprocal}
 use Rattle.algebra.specs.Field.{FieldLaws, largest_order}

@@ -11,8 +11,9 @@ use crate::tables::Tables;
 const LARGEST_ORDER: u16 = 32768;
 
 impl<'a> Tables<'a> {
-    /// Whether the operations are those of a field; if not, a law that they break, and codes at which they break it. The search goes
-    /// through the codes, then the pairs, then the triples, and stops at the first that it meets.
+    /// Whether the operations are those of a field; if not, a law that they break, and codes at which they
+    /// break it. The search goes through the codes, then the pairs, then the triples, and stops at the first
+    /// that it meets.
     pub fn broken_law(&self) -> Result<(), Broken>
         ensures { Decided self.now result }
     {

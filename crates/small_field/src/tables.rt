@@ -2,8 +2,8 @@
 ghost use Rattle.std.specs.Prelude.{◌≡◌, ◌+◌, ◌*◌};
 ghost use Rattle.small_field.specs.Candidates.{minus, plus, times};
 
-/// A sum, a negative and a product on the codes below an order, by tables: what a and b give stands at place a · order + b, and the
-/// negative of a at place a. What a table does not hold counts as 0.
+/// A sum, a negative and a product on the codes below an order, by tables: what a and b give stands at place
+/// a · order + b, and the negative of a at place a. What a table does not hold counts as 0.
 #[derive(Clone, Copy)]
 pub struct Tables<'a> {
     pub order: u16,

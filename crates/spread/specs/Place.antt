@@ -19,7 +19,8 @@ depth_sentence = codes "the depth is 0, or does not divide the number of cells"
 abbrev pub divides : ℕ → ℕ → Bool
 divides depth len = nat_lt 0 depth && len % depth == 0
 
--- The cell below that is cell j of the layer. Of a depth that does not divide, which no layer has, it is said to be cell j itself.
+-- The cell below that is cell j of the layer. Of a depth that does not divide, which no layer has, it is said
+-- to be cell j itself.
 abbrev pub place : ℕ → ℕ → ℕ → ℕ
 place depth len j = cond (divides depth len) (j % depth * (len / depth) + j / depth) j
 

@@ -46,7 +46,8 @@ impl fmt::Display for DepthFault {
 
 impl Error for DepthFault {}
 
-/// A memory over another memory of L cells: cell j is the cell (j mod D) × (L div D) + (j div D) below, D being the depth.
+/// A memory over another memory of L cells: cell j is the cell (j mod D) × (L div D) + (j div D) below, D
+/// being the depth.
 #[derive(Drop)]
 pub struct Spread<M: Memory> {
     below: M,

@@ -83,8 +83,8 @@ fn calls(heap: Global) -> anyhow::Result<Vec<Entry>> {
     Ok(entries)
 }
 
-/// By a list: it is run on a rack straight from its making, and each entry then says how its call ended. For this call the promise about
-/// every arrangement of calls is proved.
+/// By a list: it is run on a rack straight from its making, and each entry then says how its call ended. For
+/// this call the promise about every arrangement of calls is proved.
 fn by_list<M: Memory + Drop>(rt: &impl Print, heap: Global, memory: M) -> anyhow::Result<()> {
     let mut entries = calls(heap)?;
     let loading = Loading {

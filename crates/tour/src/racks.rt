@@ -1,4 +1,5 @@
-//! Two channels gather words side by side on one rack; what is refused there changes nothing, and damage costs margin alone.
+//! Two channels gather words side by side on one rack; what is refused there changes nothing, and damage
+//! costs margin alone.
 use crate::plans::{MESSAGE_CODES, Sample};
 use anyhow::anyhow;
 use fault::Fault;
@@ -116,7 +117,8 @@ fn show_gathering<M: Memory, R: Print>(
     show_slot(rt, rack, b)
 }
 
-/// B reaches for A's slot, for one that is not there and for one that is closed, and what the channels read is as before.
+/// B reaches for A's slot, for one that is not there and for one that is closed, and what the channels read
+/// is as before.
 fn show_refusals<M: Memory, R: Print>(
     rt: &R,
     plan: &Plan<Bits>,

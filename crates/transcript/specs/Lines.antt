@@ -1,5 +1,5 @@
--- What is printed of a list of calls that was run: a line for each. A refusal is printed as every refusal is; what is accepted as `ok`, and
--- after it, each after a blank, what was answered.
+-- What is printed of a list of calls that was run: a line for each. A refusal is printed as every refusal is;
+-- what is accepted as `ok`, and after it, each after a blank, what was answered.
 use Rattle.std.specs.Prelude.{ℕ, List, [], ◌∷◌, ◌++◌, codes, decimal, Ok, Err, vec_items}
 use Rattle.std.specs.Fmt.{signed_decimal}
 use Rattle.std.specs.List.{flat_map}

@@ -1,4 +1,5 @@
--- What comes of the bytes of a sheet: a refusal, or its calls as a list that was run, which keeps the promise about arrangements.
+-- What comes of the bytes of a sheet: a refusal, or its calls as a list that was run, which keeps the promise
+-- about arrangements.
 use Rattle.std.specs.Prelude.{◌≡◌, ℕ, ◌*◌, true, List, map, length, replicate, Some, Ok, Err, vec_items, Result}
 use Rattle.algebra.specs.Field.{Arithmetic}
 use Rattle.batch.specs.Lists.{requests}
@@ -36,7 +37,8 @@ module _ (s : Scheme) where
   abbrev pub zero_cells : List ℕ
   zero_cells = replicate (slots * word_length s) 0
 
-  -- A list of calls, run on a rack straight from its making, of four slots over a spreading layer of depth N over these cells.
+  -- A list of calls, run on a rack straight from its making, of four slots over a spreading layer of depth N
+  -- over these cells.
   pub record Layered (below : List ℕ) (top : ℕ) (before done : List Entry) : Type 0 where
     pub rack : State
     pub kept :
@@ -49,7 +51,8 @@ module _ (s : Scheme) where
           rack = rack;
         })
 
-  -- Calls, run so over 4 × N cells of sixteen bits that all hold 0; `done` is the list afterwards. Each read has a buffer of K codes.
+  -- Calls, run so over 4 × N cells of sixteen bits that all hold 0; `done` is the list afterwards. Each read
+  -- has a buffer of K codes.
   pub record RanOn (calls : List Request) (done : List Entry) : Type 0 where
     pub before : List Entry
     pub asked : requests before ≡ map (buffered (message_length s)) calls
@@ -64,15 +67,16 @@ module _ (s : Scheme) where
   LayeredTold below top before done (Ok ran) = Layered below top before done
   LayeredTold below top before done (Err fault) = ¬ (LayerFits below top)
 
--- k and the moduli's codes over f: either they make no plan, by the first fault that they have; or the calls were run under the plan. There is
--- no third case: the rack always fits.
+-- k and the moduli's codes over f: either they make no plan, by the first fault that they have; or the calls
+-- were run under the plan. There is no third case: the rack always fits.
 abbrev pub PlanTold : Arithmetic → ℕ → List ℕ → List Request → Transcript → Type 0
 PlanTold f k codes calls (NoSheet fault) = ⊥
 PlanTold f k codes calls (NoPlan fault) = Refused f k codes fault
 PlanTold f k codes calls (Ran ran) =
     Accepted f k codes × RanOn (handed_in f k codes) calls (map entry_of (vec_items ran.ended))
 
--- The bytes are a lawful sheet, and this comes of its plan and its calls; `moduli` are the codes of all, one after the other.
+-- The bytes are a lawful sheet, and this comes of its plan and its calls; `moduli` are the codes of all, one
+-- after the other.
 pub record Obeys (bytes : List ℕ) (t : Transcript) : Type 0 where
   pub content : Content
   pub moduli : List ℕ
@@ -80,8 +84,8 @@ pub record Obeys (bytes : List ℕ) (t : Transcript) : Type 0 where
   pub valued : codes_of content ≡ Some moduli
   pub told : PlanTold (arithmetic_of content.field) (length content.carrying) moduli content.calls t
 
--- What comes of bytes: they are refused as no sheet, by the first of the grounds 1 to 3; or they are a lawful sheet, and what comes of its plan
--- and its calls is told.
+-- What comes of bytes: they are refused as no sheet, by the first of the grounds 1 to 3; or they are a lawful
+-- sheet, and what comes of its plan and its calls is told.
 abbrev pub TranscriptTold : List ℕ → Transcript → Type 0
 TranscriptTold bytes (NoSheet fault) = SheetTold bytes (Err fault)
 TranscriptTold bytes (NoPlan fault) = Obeys bytes (NoPlan fault)

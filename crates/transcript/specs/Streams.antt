@@ -1,4 +1,5 @@
--- What running a sheet from a source to a sink does. What a source has left, and what a sink holds, is known of some alone.
+-- What running a sheet from a source to a sink does. What a source has left, and what a sink holds, is known
+-- of some alone.
 use Rattle.std.specs.Prelude.{◌≡◌, ℕ, ◌+◌, List, take, Ok, Err, IfSome, Option, Result}
 use Rattle.std.specs.Io.KnownBytes.{Appends, Consumes, Keeps}
 use Rattle.std.specs.declared.io.Error.{Error}
@@ -13,8 +14,8 @@ use Rattle.transcript.specs.declared.transcripts.Transcript.{Transcript}
 abbrev pub most_read : ℕ
 most_read = longest_sheet + 1
 
--- A transcript that is told by these bytes: all that the source had, where that is known. Of them it gave no more than the
--- first so many.
+-- A transcript that is told by these bytes: all that the source had, where that is known. Of them it gave no
+-- more than the first so many.
 pub record RunOf (left left' : Option (List ℕ)) (transcript : Transcript) : Type 0 where
   pub bytes : List ℕ
   pub all : IfSome left (λ had. had ≡ bytes)
@@ -30,8 +31,8 @@ abbrev pub Fails : {X : Type 0} → (X → Error → X → Type 0) → Error →
 Fails {X} fails error = (before : X) × ((after : X) × fails before error after)
 
 module _ {R W : Type 0} (read_fails : R → Error → R → Type 0) (write_fails : W → Error → W → Type 0) where
-  -- The text of a transcript that all the bytes of the source tell was written, and nothing else; or the source failed, and
-  -- nothing was written; or the sink failed, and the beginning of such a text was written.
+  -- The text of a transcript that all the bytes of the source tell was written, and nothing else; or the
+  -- source failed, and nothing was written; or the sink failed, and the beginning of such a text was written.
   abbrev pub RunTold : (left left' held holds : Option (List ℕ)) → Result (Unit {0}) RunError → Type 0
   RunTold left left' held holds (Ok ran) =
       (transcript : Transcript) × RunOf left left' transcript × Appends held holds (transcript_text transcript)

@@ -1,5 +1,5 @@
-//! What a sheet is read from, and what its lines are written to. Of std's readers and writers no clause says when they fail; these two
-//! say it, so that a function over any of them cannot make up an error.
+//! What a sheet is read from, and what its lines are written to. Of std's readers and writers no clause says
+//! when they fail; these two say it, so that a function over any of them cannot make up an error.
 ghost use Rattle.std.specs.Prelude.{◌≡◌, ℕ, ◌<◌, ◌≤◌, List, Option, IfOk, IfErr, length, ⊤};
 ghost use Rattle.std.specs.Io.KnownBytes.{Keeps, ReadConsumes, WriteAppends};
 ghost use Rattle.std.specs.declared.io.Error.{Error};
@@ -14,7 +14,8 @@ pub trait Source {
     /// Asked for bytes, it may fail by this error.
     ghost fails: { Self → Error → Self → Type 0 };
 
-    /// Puts bytes at the front of the buffer, and answers how many: none only at the end, or where the buffer has no room.
+    /// Puts bytes at the front of the buffer, and answers how many: none only at the end, or where the buffer
+    /// has no room.
     fn take_some(&mut self, buffer: &mut [u8]) -> io::Result<usize>
         ensures within { IfOk result (λ n. n ≤ length buffer.new) }
         ensures bytes { ReadConsumes (left self.old) (left self.new) result buffer.new }

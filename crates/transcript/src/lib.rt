@@ -1,4 +1,5 @@
-//! What came of a sheet: the sheet is read, its calls are run on a rack, and each call has a line that says how it ended.
+//! What came of a sheet: the sheet is read, its calls are run on a rack, and each call has a line that says
+//! how it ended.
 #![tactic(auto)]
 
 mod ended;

@@ -10,8 +10,8 @@ use batch::Entry;
 use sheet::MOST_CALLS;
 use std::alloc::{AllocError, Global};
 
-/// Room for the transcript of any sheet, taken before a sheet is seen, so that memory is never wanting: for what the sheet holds, and
-/// for each of its calls as it is run and as it ended.
+/// Room for the transcript of any sheet, taken before a sheet is seen, so that memory is never wanting: for
+/// what the sheet holds, and for each of its calls as it is run and as it ended.
 #[derive(Drop)]
 pub struct Room {
     pub(crate) sheet: sheet::Room,

@@ -24,8 +24,8 @@ pub enum RunError {
     Write(io::Error),
 }
 
-/// Reads a sheet to its end, or as far as shows that it is too long, and writes the text of its transcript, all in one piece and not before
-/// the reading has ended. An error of either is handed on as it came.
+/// Reads a sheet to its end, or as far as shows that it is too long, and writes the text of its transcript,
+/// all in one piece and not before the reading has ended. An error of either is handed on as it came.
 pub fn run<R: Source, W: Sink>(
     room: Room,
     text_room: TextRoom,
@@ -35,7 +35,6 @@ pub fn run<R: Source, W: Sink>(
     ensures { RunTold R.fails W.fails (R.left reader.old) (R.left reader.new) (W.holds writer.old) (W.holds writer.new) result }
 {
     let mut bytes = [0; MOST_READ];
-    // By match: what a variant as a function gives is not read back from `map_err`.
     let end = match fill(reader, &mut bytes) {
         Ok(end) => end,
         Err(error) => return Err(RunError::Read(error)),

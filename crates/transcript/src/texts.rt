@@ -14,8 +14,8 @@ use fault::{Fault, Ground};
 use std::alloc::AllocError;
 
 impl Transcript {
-    /// The whole text, as it is printed: a line for each call, or the one line of what is refused. It stands in the room, so that
-    /// memory is never wanting.
+    /// The whole text, as it is printed: a line for each call, or the one line of what is refused. It stands
+    /// in the room, so that memory is never wanting.
     pub fn text(&self, room: TextRoom) -> Vec<u8>
         ensures { vec_items result ≡ transcript_text self.now }
     {

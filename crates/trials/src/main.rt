@@ -1,6 +1,6 @@
-//! Draws plans over the three fields, with moduli of mixed degree, reducible ones among them; encodes messages, strikes and
-//! damages their words, and holds the reader against the margin of what was sent and against a search over all messages.
-//! The draws are fixed, so the counts are too.
+//! Draws plans over the three fields, with moduli of mixed degree, reducible ones among them; encodes
+//! messages, strikes and damages their words, and holds the reader against the margin of what was sent and
+//! against a search over all messages. The draws are fixed, so the counts are too.
 #![tactic(auto)]
 
 ghost use Rattle.std.specs.Prelude.{◌<◌};
@@ -126,7 +126,7 @@ fn draw_message<F: Field>(draws: &mut Draws, length: usize) -> Codes {
     message
 }
 
-/// Changes a code of some positions, now and then to a number that is no code. By position: where it starts goes by its number.
+/// Changes a code of some positions, now and then to a number that is no code.
 fn damage<F: Field>(plan: &Plan<F>, draws: &mut Draws, word: &mut [u16]) {
     for i in 0..plan.positions() {
         if draws.one_in(4) {
@@ -141,7 +141,8 @@ fn damage<F: Field>(plan: &Plan<F>, draws: &mut Draws, word: &mut [u16]) {
     }
 }
 
-/// Calls some positions missing; the others are present. `received` takes a flag for each position that a plan can have.
+/// Calls some positions missing; the others are present. `received` takes a flag for each position that a
+/// plan can have.
 fn strike(draws: &mut Draws) -> [bool; MOST_POSITIONS] {
     array::from_fn(|_| !draws.one_in(5))
 }
