@@ -2,8 +2,8 @@
 use crate::moduli::FOUR_OVER_BITS;
 use fault::{Fault, Ground, Layer};
 use field::{Bits, Bytes, Field};
-use plan::{MOST_POSITIONS, Plan};
-use reader::{Arrived, received};
+use plan::{MOST_POSITIONS, MOST_TOTAL, Plan};
+use reader::{Arrived, ArrivedWord, received};
 use std::array;
 use std::process::Abort;
 use std::test::Fail;
@@ -130,5 +130,24 @@ fn words_over_bytes(rt: HostRuntime) -> Result<(), Fail> {
         19,
         0,
     );
+    Ok(())
+}
+
+#[test]
+fn a_word_by_its_flags(rt: HostRuntime) -> Result<(), Fail> {
+    let plan = Plan::<Bits>::new(2, &FOUR_OVER_BITS)?;
+    let mut word = [0; MOST_TOTAL];
+    word[..4].copy_from_slice(&[1, 0, 1, 1]);
+    let present = presence(&[true, true, true]);
+    let arrived = ArrivedWord {
+        plan: &plan,
+        word: &word,
+        present: &present,
+    };
+    assert_eq!(rt; arrived.missing_degrees(), 3);
+    assert_eq!(rt; arrived.wrong_degrees(&[1, 1]), 0);
+    assert_eq!(rt; arrived.measure(&[1, 1]), 2);
+    assert_eq!(rt; arrived.wrong_degrees(&[0, 0]), 3);
+    assert_eq!(rt; arrived.measure(&[0, 0]), -4);
     Ok(())
 }

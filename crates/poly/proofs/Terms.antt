@@ -3,6 +3,9 @@ use Rattle.std.proofs.Common.{◌≡◌, ℕ, suc, ◌+◌, ◌<◌, List, sym, 
 use Rattle.algebra.specs.Field.{Arithmetic, FieldLaws}
 use Rattle.algebra.specs.Polynomial.{coefficients, add, subtract, multiply, Below, IsPolynomial}
 use Rattle.algebra.specs.Moduli.{monomial}
+use Rattle.poly.specs.declared.products.Taken.{Taken}
+use Rattle.poly.specs.declared.products.Taken.TheVariants.{Added, Subtracted}
+use Rattle.poly.specs.Products.{unit}
 use Rattle.algebra.proofs.Codes.{product_zero}
 use Rattle.algebra.proofs.Coefficients.{upto, upto_polynomial, multiply_assoc, multiply_upto_none, multiply_upto_next, multiply_upto_all, multiply_polynomial, monomial_from, monomial_polynomial, add_assoc, add_nought, one_multiply}
 use Rattle.algebra.proofs.Negatives.{add_negative_multiple}
@@ -21,6 +24,11 @@ module _ (f : Arithmetic) (L : FieldLaws f) where
   add_minus_one_multiple p r x c hp hr n e =
       e ∙ ap (λ k. add f p (multiply f (monomial k 0) r)) n ∙ add_negative_multiple f L 1 0 p r (omega (arith, L.order_least)) hp hr
       ∙ ap (subtract f p) (one_multiply f L r hr)
+
+  -- Both are codes.
+  pub unit_code : (taken : Taken) → unit f taken < f.order
+  unit_code Added = omega (arith, L.order_least)
+  unit_code Subtracted = L.negative_below 1
 
   -- The loop that adds c·a·b.
   module _ (c : ℕ) (p a b : ℕ → ℕ) (hc : c < f.order) (hp : IsPolynomial f p) (ha : IsPolynomial f a) (hb : IsPolynomial f b) where

@@ -5,7 +5,6 @@ ghost use Rattle.algebra.specs.Remainder.{IsRemainder, cleared, remainder};
 ghost use Rattle.poly.specs.Slices.{Codes};
 
 use field::Field;
-use std::mem;
 
 /// `code + z·residue` less the multiple of the modulus that clears its highest coefficient, in the place of
 /// the residue.
@@ -17,8 +16,10 @@ fn shift_in<F: Field>(residue: &mut [u16], modulus: &[u16], code: u16)
     let top = residue[residue.len() - 1];
     let mut lower = code;
     for (i, factor) in modulus[..residue.len()].iter().enumerate() {
-        let cleared = F::sum(lower, F::negative(F::product(top, *factor)));
-        lower = mem::replace(&mut residue[i], cleared);
+        // Read before it is written: so the loop goes by several codes at a time.
+        let next = residue[i];
+        residue[i] = F::sum(lower, F::negative(F::product(top, *factor)));
+        lower = next;
     }
 }
 

@@ -18,7 +18,7 @@ use crate::table::Rack;
 use field::Field;
 use memory::Memory;
 use plan::MOST_TOTAL;
-use reader::{Arrived, Reading, received};
+use reader::{Arrived, ArrivedWord, Reading, received};
 
 impl<F: Field, M: Memory> Rack<F, M> {
     /// The slot becomes the channel's, every position missing.
@@ -82,10 +82,10 @@ impl<F: Field, M: Memory> Rack<F, M> {
         self.slots.may_use(channel, slot)?;
         check_message(&self.plan, slot, message)?;
         let word = self.word(slot);
-        let residues = received(&self.plan, &word, &self.slots.records[slot].present);
-        let arrived = Arrived {
+        let arrived = ArrivedWord {
             plan: &self.plan,
-            residues: &residues,
+            word: &word,
+            present: &self.slots.records[slot].present,
         };
         Ok(arrived.measure(message))
     }
@@ -118,8 +118,8 @@ impl<F: Field, M: Memory> Rack<F, M> {
         load(&self.memory, slot * count, count)
     }
 
-    // What the reader makes of the slot. What has arrived is put together here and in `measure`: it lends the
-    // slot's word, which lives no longer than either.
+    // What the reader makes of the slot. What has arrived is put together here: it lends the slot's word,
+    // which lives no longer.
     fn read_slot(&self, slot: usize) -> Result<Reading, SlotFault>
         requires { slot < self.now.slots.count }
         ensures { SlotRead (scheme self.now.plan) (account_of (state self.now) slot) result }

@@ -1,9 +1,12 @@
 //! What has arrived of a word.
-ghost use Rattle.std.specs.Prelude.{◌≡◌};
+ghost use Rattle.std.specs.Prelude.{◌≡◌, ◌+◌};
 ghost use Rattle.std.specs.Option.{option_copied};
+ghost use Rattle.plan.specs.Accounts.{margin, missing, wrong};
 ghost use Rattle.plan.specs.Held.{scheme};
+ghost use Rattle.plan.specs.Schemes.{message_length, word_length};
 ghost use Rattle.reader.specs.Arrivals.{account_of, part, received};
 
+use crate::tally::{Residues, Tally};
 use field::Field;
 use plan::{MOST_POSITIONS, Plan};
 use std::array;
@@ -23,6 +26,52 @@ impl<'a, F: Field> Arrived<'a, F> {
         ensures { option_copied result ≡ account_of self.now.residues.now i }
     {
         self.residues.get(i).copied().flatten()
+    }
+
+    pub(crate) fn tally(&self) -> Tally<'_, F, Self>
+        ensures plan { result.plan.now ≡ self.now.plan.now }
+        ensures source { result.source.now ≡ self.now }
+    {
+        Tally {
+            plan: self.plan,
+            source: self,
+        }
+    }
+
+    /// R, the degrees of the missing positions.
+    pub fn missing_degrees(&self) -> usize
+        ensures { result ≡ missing (scheme self.now.plan.now) (account_of self.now.residues.now) }
+    {
+        self.tally().missing_degrees()
+    }
+
+    /// e, the degrees of the present positions whose residue differs from the message's.
+    pub fn wrong_degrees(&self, message: &[u16]) -> usize
+        ensures { result ≡ wrong (scheme self.now.plan.now) (account_of self.now.residues.now) message.now }
+    {
+        self.tally().wrong_degrees(message)
+    }
+
+    /// The margin N − K − R − 2e of the message; below 0 where the message lies outside the allowance.
+    pub fn measure(&self, message: &[u16]) -> i32
+        ensures { result ≡ margin (scheme self.now.plan.now) (account_of self.now.residues.now) message.now }
+    {
+        self.tally().measure(message)
+    }
+
+    /// N − K, the codes of a word past those of a message.
+    pub(crate) fn redundancy(&self) -> usize
+        ensures { result + message_length (scheme self.now.plan.now) ≡ word_length (scheme self.now.plan.now) }
+    {
+        self.tally().redundancy()
+    }
+}
+
+impl<F: Field> Residues for Arrived<'_, F> {
+    ghost account = { λ arrived. account_of arrived.residues.now };
+
+    fn at(&self, i: usize) -> Option<&[u16]> {
+        self.residue(i)
     }
 }
 

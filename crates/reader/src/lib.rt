@@ -3,6 +3,7 @@
 
 mod answers;
 mod arrived;
+mod arrived_word;
 mod congruence;
 mod finding;
 mod gathering;
@@ -12,3 +13,4 @@ mod tally;
 
 pub use answers::{MESSAGE_TABLE, ReaderFault, Reading};
 pub use arrived::{Arrived, received};
+pub use arrived_word::ArrivedWord;

@@ -1,21 +1,38 @@
 //! What has arrived for and against a message: the degrees of the missing positions, the degrees of those
 //! that the message does not explain, and the margin.
 ghost use Rattle.std.specs.Prelude.{◌≡◌, ℕ, ◌+◌, ◌*◌, ◌≤◌, pos, ◌-ℤ◌};
-ghost use Rattle.plan.specs.Accounts.{charge, lost, margin, missing, same, wrong};
+ghost use Rattle.std.specs.Option.{option_copied};
+ghost use Rattle.plan.specs.Accounts.{Account, charge, lost, margin, missing, same, wrong};
 ghost use Rattle.plan.specs.Held.{scheme};
 ghost use Rattle.plan.specs.Limits.{most_total};
 ghost use Rattle.plan.specs.Schemes.{message_length, residue, word_length};
-ghost use Rattle.reader.specs.Arrivals.{account_of};
 
-use crate::arrived::Arrived;
 use field::Field;
+use plan::Plan;
 
-impl<'a, F: Field> Arrived<'a, F> {
+/// Where the residues of the positions are found.
+pub(crate) trait Residues {
+    // The account that they give.
+    ghost account: { Self → Account };
+
+    /// The residue of position i, or `None` where it is missing.
+    fn at(&self, i: usize) -> Option<&[u16]>
+        ensures { option_copied result ≡ account self.now i };
+}
+
+/// A plan, and where the residues are found.
+#[derive(Drop)]
+pub(crate) struct Tally<'a, F: Field, R: Residues> {
+    pub(crate) plan: &'a Plan<F>,
+    pub(crate) source: &'a R,
+}
+
+impl<F: Field, R: Residues> Tally<'_, F, R> {
     // What position i loses by being missing: its degree.
     fn lost_at(&self, i: usize) -> usize
-        ensures { result ≡ lost (scheme self.now.plan.now) i (account_of self.now.residues.now i) }
+        ensures { result ≡ lost (scheme self.now.plan.now) i (R.Residues.account self.now.source.now i) }
     {
-        if self.residue(i).is_none() {
+        if self.source.at(i).is_none() {
             self.plan.degree(i)
         } else {
             0
@@ -23,8 +40,8 @@ impl<'a, F: Field> Arrived<'a, F> {
     }
 
     /// R, the degrees of the missing positions.
-    pub fn missing_degrees(&self) -> usize
-        ensures { result ≡ missing (scheme self.now.plan.now) (account_of self.now.residues.now) }
+    pub(crate) fn missing_degrees(&self) -> usize
+        ensures { result ≡ missing (scheme self.now.plan.now) (R.Residues.account self.now.source.now) }
     {
         (0..self.plan.positions()).map(|i| self.lost_at(i)).sum()
     }
@@ -40,17 +57,17 @@ impl<'a, F: Field> Arrived<'a, F> {
     // What position i costs the message: its degree where the residue is present and differs from the
     // message's, else nothing.
     fn charge_at(&self, i: usize, message: &[u16]) -> usize
-        ensures { result ≡ charge (scheme self.now.plan.now) message.now i (account_of self.now.residues.now i) }
+        ensures { result ≡ charge (scheme self.now.plan.now) message.now i (R.Residues.account self.now.source.now i) }
     {
-        match self.residue(i) {
+        match self.source.at(i) {
             Some(part) if !self.is_residue(i, message, part) => self.plan.degree(i),
             _ => 0,
         }
     }
 
     /// e, the degrees of the present positions whose residue differs from the message's.
-    pub fn wrong_degrees(&self, message: &[u16]) -> usize
-        ensures { result ≡ wrong (scheme self.now.plan.now) (account_of self.now.residues.now) message.now }
+    pub(crate) fn wrong_degrees(&self, message: &[u16]) -> usize
+        ensures { result ≡ wrong (scheme self.now.plan.now) (R.Residues.account self.now.source.now) message.now }
     {
         (0..self.plan.positions())
             .map(|i| self.charge_at(i, message))
@@ -58,8 +75,8 @@ impl<'a, F: Field> Arrived<'a, F> {
     }
 
     /// The margin N − K − R − 2e of the message; below 0 where the message lies outside the allowance.
-    pub fn measure(&self, message: &[u16]) -> i32
-        ensures { result ≡ margin (scheme self.now.plan.now) (account_of self.now.residues.now) message.now }
+    pub(crate) fn measure(&self, message: &[u16]) -> i32
+        ensures { result ≡ margin (scheme self.now.plan.now) (R.Residues.account self.now.source.now) message.now }
     {
         margin_of(
             self.redundancy(),

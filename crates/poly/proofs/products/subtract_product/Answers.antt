@@ -1,3 +1,4 @@
+use Rattle.std.proofs.Common.{refl}
 use Rattle.algebra.specs.Polynomial.{coefficients, multiply}
 use Rattle.algebra.proofs.Coefficients.{list_polynomial, multiply_polynomial}
 use Rattle.poly.proofs.Terms.{add_minus_one_multiple}
@@ -10,7 +11,7 @@ returns-clause-value g c =
     let p = c.args.p.now in
     let a = c.args.a.now in
     let b = c.args.b.now in
-    add_minus_one_multiple f L (coefficients p) (multiply f (coefficients a) (coefficients b)) (coefficients c.add_product.new.p) c.negative.result
+    add_minus_one_multiple f L (coefficients p) (multiply f (coefficients a) (coefficients b)) (coefficients c.add_product.new.p) (f.negative 1)
     (list_polynomial f L p c.requires.p_codes)
     (multiply_polynomial f L (coefficients a) (coefficients b) (list_polynomial f L a c.requires.a_codes) (list_polynomial f L b c.requires.b_codes))
-    c.negative.ensures c.add_product.ensures.value
+    refl c.add_product.ensures.value

@@ -1,4 +1,4 @@
-use Rattle.std.proofs.Common.{◌≡◌, ◌-◌, ◌<◌, ◌≤◌, length, ap, ◌∙◌, arith}
+use Rattle.std.proofs.Common.{◌-◌, ◌<◌, ◌≤◌, length, ap, ◌∙◌, arith}
 use Rattle.std.proofs.lemmas.List.{get_or-take, length-take-le}
 use Rattle.algebra.specs.Polynomial.{coefficients}
 use Rattle.poly.proofs.Shifting.{cons_last, shift_more, shift_all}
@@ -14,11 +14,9 @@ loop-i-preserved g c =
     let below : i < length old = omega (arith, length-take-le (length old) modulus (omega (arith, c.requires.fits))) in
     let l : i < length c.loop-i.residue = omega arith in
     let product = c.product.ensures ∙ ap (f.product top) (get_or-take (length old) modulus i 0 below) in
-    let written : c.replace-lower.new.dest ≡ f.sum c.loop-i.lower c.negative.result = cc in
-    let kept : c.replace-lower.result ≡ coefficients c.loop-i.residue i = cc in
-    rw kept (shift_more f g.met.F.Field.lawful (coefficients modulus) c.args.code old i c.loop-i.residue c.loop-i.lower top c.product.result
-    c.negative.result c.replace-lower.new.dest c.loop-i.auto.residue l (cons_last c.args.code old c.requires.least) product c.negative.ensures
-    written c.loop-i.invariant)
+    shift_more f g.met.F.Field.lawful (coefficients modulus) c.args.code old i c.loop-i.residue c.loop-i.lower top c.product.result
+    c.negative.result c.sum.result c.loop-i.auto.residue l (cons_last c.args.code old c.requires.least) product c.negative.ensures
+    c.sum.ensures c.loop-i.invariant
 
 pub returns : goal.returns
 returns g c =

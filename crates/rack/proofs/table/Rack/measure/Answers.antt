@@ -25,7 +25,7 @@ returns g c =
     let r = state c.args.self.now in
     let request = measures c.args.channel c.args.slot c.args.message.now in
     let back : to_z w32 (of_z w32 c.measure.result) ≡ c.measure.result = search rules in
-    let account = account_used r c.args.channel c.args.slot c.in_ok-may_use.ensures ∙ sym (c.received-residues.ensures ∙ c.word-word.ensures.account) in
+    let account = account_used r c.args.channel c.args.slot c.in_ok-may_use.ensures ∙ sym c.word-word.ensures.account in
     passes r request _ _
     (later_passes r c.args.channel c.args.slot request _ refl c.in_ok-may_use.ensures c.in_ok-check_message.ensures)
     (ap (λ m. Ok (Margin m)) (back ∙ c.measure.ensures ∙ ap (λ (a : Account). margin r.scheme a c.args.message.now) (sym account)), refl)

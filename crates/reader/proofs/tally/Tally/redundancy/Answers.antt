@@ -1,7 +1,7 @@
 use Rattle.std.proofs.Common.{arith}
 use Rattle.plan.specs.Held.{scheme}
 use Rattle.plan.proofs.Sizes.{start_most}
-use Rattle.reader.proofs.arrived.Arrived.redundancy.Goals as goal
+use Rattle.reader.proofs.tally.Tally.redundancy.Goals as goal
 
 pub overflow_sub-result : goal.overflow_sub-result
 overflow_sub-result g c =

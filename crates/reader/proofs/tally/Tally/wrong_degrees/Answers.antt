@@ -5,15 +5,14 @@ use Rattle.plan.specs.Accounts.{charge}
 use Rattle.plan.specs.Held.{scheme}
 use Rattle.plan.specs.Schemes.{positions}
 use Rattle.plan.proofs.Tallies.{wrong_most}
-use Rattle.reader.specs.Arrivals.{account_of}
 use Rattle.reader.proofs.Tallied.{sum_over}
-use Rattle.reader.proofs.arrived.Arrived.wrong_degrees.Goals as goal
+use Rattle.reader.proofs.tally.Tally.wrong_degrees.Goals as goal
 
 pub sum-requires-clause-fits : goal.sum-requires-clause-fits
 sum-requires-clause-fits g c =
     let p = c.args.self.now.plan.now in
     let s = scheme p in
-    let account = account_of c.args.self.now.residues.now in
+    let account = g.R.Residues.account c.args.self.now.source.now in
     let amount = λ (i : ℕ). charge s c.args.message.now i (account i) in
     fits_from_yields_list c.map.result _
     (YieldsList-from_map _ amount (YieldsList-from_range 0 (positions s) (positions s) (cc) (omega arith)) c.map.ensures.closure (λ x r q k. search rules))
@@ -22,7 +21,7 @@ sum-requires-clause-fits g c =
 pub returns : goal.returns
 returns g c =
     let s = scheme c.args.self.now.plan.now in
-    let account = account_of c.args.self.now.residues.now in
+    let account = g.R.Residues.account c.args.self.now.source.now in
     let amount = λ (i : ℕ). charge s c.args.message.now i (account i) in
     sum_from_yields_List c.map.result _ c.sum.ensures.ran
     (YieldsList-from_map _ amount (YieldsList-from_range 0 (positions s) (positions s) (cc) (omega arith)) c.map.ensures.closure (λ x r q k. search rules))

@@ -7,7 +7,7 @@ use Rattle.plan.specs.Schemes.{residue}
 use Rattle.plan.proofs.Sizes.{residue_length}
 use Rattle.plan.proofs.Tables.{table_begins}
 use Rattle.plan.proofs.Tallies.{decides_same}
-use Rattle.reader.proofs.arrived.Arrived.is_residue.Goals as goal
+use Rattle.reader.proofs.tally.Tally.is_residue.Goals as goal
 
 pub slice_bounds-eq-end : goal.slice_bounds-eq-end
 slice_bounds-eq-end g c =
